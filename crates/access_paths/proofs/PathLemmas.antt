@@ -1,6 +1,6 @@
 -- The access paths to a table, one place of the candidates after the other.
 use Rattle.std.proofs.Common.{◌≡◌, ◌∙◌, ℕ, suc, ◌+◌, ◌<◌, ◌≤◌, List, [], ◌∷◌, ◌++◌, length, drop, get_or, map, All, refl, sym, ap, subst, arith, append_assoc, drop-cons}
-use Rattle.std.specs.Prelude.{Bool, true, false, ◌==◌, ◌&&◌, filter, sum_by, if◌then◌else◌, Some}
+use Rattle.std.specs.Prelude.{Bool, true, false, ◌==◌, ◌&&◌, filter, sum_by, Some}
 use Rattle.std.specs.List.{enumerate_from}
 use Rattle.std.proofs.lemmas.Bool.Decides.{nat_tests}
 use Rattle.std.proofs.lemmas.List.{drop_all, map-append}
@@ -15,22 +15,13 @@ use Rattle.adv_base.specs.declared.setting.Config.{Config}
 use Rattle.adv_base.specs.Configs.{chosen}
 use Rattle.adv_base.specs.Lookups.{column_count, table_at}
 use Rattle.adv_base.specs.Named.{NamesShape}
-use Rattle.adv_base.specs.Offers.{Path, Heap, Existing, Candidate, candidate_path, numbered_on, paths_on}
+use Rattle.adv_base.specs.Offers.{Path, Heap, Existing, candidate_path, numbered_on, paths_on}
 use Rattle.access_paths.specs.declared.paths.AccessPath.{AccessPath}
 use Rattle.access_paths.specs.inner.Paths.{IsWithin, as_path, as_paths}
 
 -- the candidates on a table of those that are chosen, from one place on
 abbrev pub numbered_from : ℕ → ℕ → List Bool → List IndexShape → List (ℕ × IndexShape)
 numbered_from t place flags shapes = filter (λ numbered. numbered.1.table == t) (chosen flags (enumerate_from (place + 1) shapes))
-
-kept : (b : Bool) (x : ℕ × IndexShape) (xs : List (ℕ × IndexShape)) (t : ℕ) → (x.1.table == t) ≡ b →
-    filter (λ numbered. numbered.1.table == t) (x ∷ xs) ≡ (if b then x ∷ [] else []) ++ filter (λ numbered. numbered.1.table == t) xs
-kept true x xs t is = rw is refl
-kept false x xs t is = rw is refl
-
-mapped : (b : Bool) (number : ℕ) (x : IndexShape) → map candidate_path (if b then (number, x) ∷ [] else []) ≡ (if b then Candidate number x ∷ [] else [])
-mapped true number x = refl
-mapped false number x = refl
 
 chosen-nil : {X : Type 0} (flags : List Bool) → chosen {X = X} flags [] ≡ []
 chosen-nil [] = refl

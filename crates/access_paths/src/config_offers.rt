@@ -4,7 +4,7 @@ ghost use Rattle.adv_base.specs.OfferTables.{OfferTableLimits};
 ghost use Rattle.access_paths.specs.ConfigOffers as kept;
 
 use crate::slot_access::slot_offers;
-use crate::slot_offer::SlotOffer;
+use crate::slot_offers::SlotOffer;
 use crate::slot_offers::SlotOffers;
 use adv_base::{Block, Catalogue, Config, IndexShape, Item, NoMemory};
 use plan_model::Offers;

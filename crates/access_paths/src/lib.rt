@@ -27,7 +27,6 @@ mod predicates;
 mod price;
 mod reader;
 mod slot_access;
-mod slot_offer;
 mod slot_offers;
 
 pub use block_labels::labels;

@@ -6,7 +6,7 @@ ghost use Rattle.adv_base.specs.Named.{NamesBlock};
 use crate::orders::index_order;
 use crate::paths::AccessPath;
 use crate::price::{index_price, table_price};
-use crate::slot_offer::SlotOffer;
+use crate::slot_offers::SlotOffer;
 use adv_base::{Block, Catalogue, IndexShape, List, NoMemory, Slot, Table};
 use std::alloc::Global;
 

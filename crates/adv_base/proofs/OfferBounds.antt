@@ -14,7 +14,7 @@ use Rattle.adv_base.specs.declared.catalogue.Catalogue.{Catalogue}
 use Rattle.adv_base.specs.declared.catalogue.column.Column.{Column}
 use Rattle.adv_base.specs.declared.catalogue.index.IndexShape.{IndexShape}
 use Rattle.adv_base.specs.declared.catalogue.table.Table.{Table}
-use Rattle.adv_base.specs.declared.limits.TheConstants.{MOST_ROWS, MOST_RATE, MOST_WIDTH, MOST_KEYS, MOST_INDEX_PAGES, MOST_TABLE_PRICE, MOST_INDEX_PRICE, MOST_RENT, WHOLE}
+use Rattle.adv_base.specs.declared.limits.TheConstants.{MOST_ROWS, MOST_PAGES, MOST_RATE, MOST_WIDTH, MOST_KEYS, MOST_INDEX_PAGES, MOST_TABLE_PRICE, MOST_INDEX_PRICE, MOST_RENT, WHOLE}
 use Rattle.adv_base.specs.declared.setting.Config.{Config}
 use Rattle.adv_base.specs.declared.workload.block.Block.{Block}
 use Rattle.adv_base.specs.declared.workload.parts.Slot.{Slot}
@@ -97,7 +97,7 @@ matched_rows-most cat block s table shape =
     let less = times_part-most (table_rows table) (matched_part cat block s shape.keys) (matched_part-most cat block s shape.keys) in
     found-most (finds_one_row block s shape) (times_part (table_rows table) (matched_part cat block s shape.keys)) (omega (arith, rows, less))
 
-fetched-most : (covers clustered : Bool) (run each : ℕ) → run ≤ MOST_ROWS * MOST_RATE → each ≤ MOST_ROWS * MOST_RATE →
+fetched-most : (covers clustered : Bool) (run each : ℕ) → run ≤ MOST_PAGES * MOST_RATE → each ≤ MOST_ROWS * MOST_RATE →
     (if covers then 0 else (if clustered then run else each)) ≤ MOST_ROWS * MOST_RATE
 fetched-most true clustered run each r e = omega arith
 fetched-most false true run each r e = r
@@ -107,10 +107,10 @@ fetch_cost-most : (cat : Catalogue) (block : Block) (s : ℕ) (slot : Slot) (tab
 unfolding fetch_cost
 fetch_cost-most cat block s slot table shape =
     let part : ℕ = matched_part cat block s shape.keys in
-    let pages : table.pages ≤ MOST_ROWS = table.limits.pages_most in
+    let pages : table.pages ≤ MOST_PAGES = table.limits.pages_most in
     let less : times_part (table_pages table) part ≤ table_pages table = times_part-most (table_pages table) part (matched_part-most cat block s shape.keys) in
-    let run : times_part (table_pages table) part * cat.rates.seq_page ≤ MOST_ROWS * MOST_RATE =
-    mul-le (times_part (table_pages table) part) cat.rates.seq_page MOST_ROWS MOST_RATE (omega (arith, pages, less)) cat.rates.limits.seq_page_most in
+    let run : times_part (table_pages table) part * cat.rates.seq_page ≤ MOST_PAGES * MOST_RATE =
+    mul-le (times_part (table_pages table) part) cat.rates.seq_page MOST_PAGES MOST_RATE (omega (arith, pages, less)) cat.rates.limits.seq_page_most in
     let each : matched_rows cat block s table shape * cat.rates.rand_page ≤ MOST_ROWS * MOST_RATE =
     mul-le-mul (matched_rows-most cat block s table shape) cat.rates.limits.rand_page_most in
     fetched-most (covers_slot block slot shape) shape.clustered _ _ run each
@@ -120,8 +120,8 @@ pub table_price-most : (cat : Catalogue) (table : Table) → table_price cat tab
 unfolding table_price
 table_price-most cat table =
     let rows : table.rows ≤ MOST_ROWS = table.limits.rows_most in
-    let pages : table.pages ≤ MOST_ROWS = table.limits.pages_most in
-    let read : table_pages table * cat.rates.seq_page ≤ MOST_ROWS * MOST_RATE = mul-le (table_pages table) cat.rates.seq_page MOST_ROWS MOST_RATE (omega (arith, pages)) cat.rates.limits.seq_page_most in
+    let pages : table.pages ≤ MOST_PAGES = table.limits.pages_most in
+    let read : table_pages table * cat.rates.seq_page ≤ MOST_PAGES * MOST_RATE = mul-le (table_pages table) cat.rates.seq_page MOST_PAGES MOST_RATE (omega (arith, pages)) cat.rates.limits.seq_page_most in
     let handled : table_rows table * cat.rates.row_cpu ≤ MOST_ROWS * MOST_RATE = mul-le (table_rows table) cat.rates.row_cpu MOST_ROWS MOST_RATE (omega (arith, rows)) cat.rates.limits.row_cpu_most in
     omega (arith, read, handled)
 

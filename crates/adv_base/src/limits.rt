@@ -1,7 +1,9 @@
 //! The limits that types keep, each stated once; contracts and definitions cite these names.
 
-/// Rows and pages of a table, distinct values of a column, rows of a join and pages of a space budget: at most 10^12.
+/// Rows of a table, distinct values of a column and rows of a join: at most 10^12.
 pub const MOST_ROWS: u64 = 1_000_000_000_000;
+/// Pages of a table and of a space budget: at most 10^12.
+pub const MOST_PAGES: u64 = 1_000_000_000_000;
 /// The whole that selectivities are parts of: 10^9.
 pub const WHOLE: u64 = 1_000_000_000;
 /// A rate, in thousandths of a sequential page read.

@@ -10,7 +10,7 @@ use crate::lagrangian::readers::{Draws, Scale, readers_of, rents_in_order};
 use crate::opened::{Opened, open};
 use crate::planned::planned_total;
 use crate::texts::SHOP;
-use adv_base::limits::{MOST_PAGE_PRICE, MOST_RENT, MOST_ROWS};
+use adv_base::limits::{MOST_PAGE_PRICE, MOST_PAGES, MOST_RENT};
 use adv_base::{Config, List, Setting};
 use bip_model::{Fix, Multipliers, Programme, State, grant_count};
 use hypo_indexes::config_pages;
@@ -189,7 +189,7 @@ impl Tried<'_> {
     )
         requires { AreMultipliers self.now.programme multipliers.now }
     {
-        assert!(rt; budget <= MOST_ROWS);
+        assert!(rt; budget <= MOST_PAGES);
         for number in 0..NODES {
             let fix = node(number);
             let told = bound(&self.programme, budget, &fix, multipliers);

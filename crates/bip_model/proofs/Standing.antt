@@ -25,11 +25,12 @@ use Rattle.adv_base.proofs.ConfigLaws.{chosen-none}
 use Rattle.adv_base.proofs.OfferBounds.{offers-limits, tables-offered}
 use Rattle.plan_model.specs.declared.task.Task.{Task}
 use Rattle.plan_model.specs.declared.template.Template.{Template}
-use Rattle.plan_model.specs.Combinations.{IsOffered, IsLeastPrice, CachedBy, needed, IsIn}
+use Rattle.plan_model.specs.Combinations.{IsOffered, IsLeastPrice, CachedBy, needed, IsIn, SomeAsksNothing}
 use Rattle.plan_model.specs.Exchange.{sum_below}
 use Rattle.plan_model.specs.Least.{Least}
 use Rattle.plan_model.specs.Orders.{interesting_orders}
 use Rattle.plan_model.specs.Totals.{no_candidates}
+use Rattle.plan_model.proofs.AsksNothing.{some-asks-nothing}
 use Rattle.plan_model.proofs.Sums.{AreFlags}
 use Rattle.plan_model.proofs.Duality.{flags-are}
 use Rattle.bip_model.specs.declared.grant.Grant.{Grant}
@@ -326,20 +327,17 @@ part-cached setting blocked part config is cost e =
           }
     ]
 
-pub first-order : (task : Task) (s : ℕ) → slice_index_or (interesting_orders task s) 0 [] ≡ []
-unfolding interesting_orders
-first-order task s = refl
-
--- there is some plan, and so a least cost
+-- some template asks for nothing, and so there is a least cost
 part-costs : (setting : TheSetting) (blocked : Blocked) (part : Part) (config : Config) → NamesBlock setting.cat blocked.block → (is : IsPart setting blocked part) → IsSome (λ n. 0 ≤ n) (least_cost part config)
 part-costs setting blocked part config named is =
     let task : Task = is.task in
-    let template : Template = is.some_plan.template in
+    let plain : SomeAsksNothing task part.templates = some-asks-nothing task part.templates is.decompose in
+    let template : Template = plain.template in
     let table : OfferTable = offers setting.cat blocked.block setting.shapes config in
     let each : (s : ℕ) → s < task.slots → needed_price config part.slots template s ≡ Some (price_or config part.slots template s) = λ s below.
     let some : 0 < length (table s) = (tables-offered setting.cat blocked.block named setting.shapes config).some s (omega (arith, below, is.task_is.slots_are)) in
-    let order : needed task template s ≡ [] = ap (λ (o : ℕ). slice_index_or (interesting_orders task s) o []) (is.some_plan.asks_nothing s (omega (arith, below, slots-same setting blocked part is))) ∙ first-order task s in
-    let given_is = needed-given setting blocked part config is is.some_plan.number template is.some_plan.found s below in
+    let order : needed task template s ≡ [] = plain.asks_nothing s below in
+    let given_is = needed-given setting blocked part config is plain.number template plain.found s below in
     elim (slice_get_cases (table s) 0).1 [
       | inl offer ↦
           let priced = least-most (given []) None (table s) 0 offer.0 offer.0.1 offer.2 (gives-given [] offer.0 (begins_nil offer.0.0)) in
@@ -351,7 +349,7 @@ part-costs setting blocked part config named is =
     summed-cost config part.slots template (price_or config part.slots template) task.slots each in
     let own : template_cost config part.slots template ≡ Some (template.internal + sum_below (price_or config part.slots template) task.slots) =
     subst (λ n. cost_below config part.slots template n ≡ Some (template.internal + sum_below (price_or config part.slots template) task.slots)) (sym (slots-same setting blocked part is)) costs in
-    let least = least-most (template_cost config part.slots) None part.templates is.some_plan.number template (template.internal + sum_below (price_or config part.slots template) task.slots) is.some_plan.found own in
+    let least = least-most (template_cost config part.slots) None part.templates plain.number template (template.internal + sum_below (price_or config part.slots template) task.slots) plain.found own in
     record { number = least.number; is = least.is; holds = omega arith }
 
 -- The cost of a part is that of a least plan of its block.

@@ -1,5 +1,5 @@
 -- When a programme stands for a setting.
-use Rattle.std.specs.Prelude.{◌≡◌, ℕ, suc, ◌<◌, ◌==◌, if◌then◌else◌, List, [], ◌∷◌, length, map, filter, fold, take, Option, Some, None, slice_get}
+use Rattle.std.specs.Prelude.{◌≡◌, ℕ, suc, ◌==◌, if◌then◌else◌, List, [], ◌∷◌, length, map, filter, fold, take, Option, Some, None, slice_get}
 use Rattle.std.specs.List.{enumerate_from}
 use Rattle.adv_base.specs.declared.catalogue.index.IndexShape.{IndexShape}
 use Rattle.adv_base.specs.declared.catalogue.table.Table.{Table}
@@ -12,7 +12,6 @@ use Rattle.adv_base.specs.Offers.{Offer, offers, index_offer}
 use Rattle.adv_base.specs.Settings.{TheSetting}
 use Rattle.adv_base.specs.Sizes.{shape_pages}
 use Rattle.plan_model.specs.declared.task.Task.{Task}
-use Rattle.plan_model.specs.declared.template.Template.{Template}
 use Rattle.plan_model.specs.BlockTask.{IsTaskOf}
 use Rattle.plan_model.specs.Combinations.{Decompose}
 use Rattle.plan_model.specs.Lagrangian.{weighted_upkeep, weighted_kept}
@@ -22,7 +21,7 @@ use Rattle.bip_model.specs.declared.grant.Grant.{Grant}
 use Rattle.bip_model.specs.declared.slot_part.SlotPart.{SlotPart}
 use Rattle.bip_model.specs.declared.part.Part.{Part}
 use Rattle.bip_model.specs.declared.programme.Programme.{Programme}
-use Rattle.bip_model.specs.Values.{lesser, need}
+use Rattle.bip_model.specs.Values.{lesser}
 
 -- the price at which an offer gives an order: it does where its own begins with it
 abbrev pub given : Order → Offer → Option ℕ
@@ -54,13 +53,6 @@ pub record IsSlotPart (setting : TheSetting) (block : Block) (task : Task) (s : 
   pub base_is : own.base ≡ map (λ order. least_given order (offers setting.cat block setting.shapes no_candidates s)) (interesting_orders task s)
   pub grants_are : AreEach (IsGrant setting block task s slot table) (candidates_on setting.shapes slot.table) own.grants
 
--- one of the templates asks none of so many slots for an order, so that each table of offers has a plan
-pub record SomeAsksNothing (slots : ℕ) (templates : List Template) : Type 0 where
-  pub number : ℕ
-  pub template : Template
-  pub found : slice_get templates number ≡ Some template
-  pub asks_nothing : (s : ℕ) → s < slots → need template s ≡ 0
-
 -- a statement with a block: its number, from 1, and its weight
 pub record Blocked : Type 0 where
   pub number : ℕ
@@ -74,7 +66,6 @@ pub record IsPart (setting : TheSetting) (blocked : Blocked) (part : Part) : Typ
   pub task : Task
   pub task_is : IsTaskOf setting.cat blocked.block task
   pub decompose : Decompose task part.templates
-  pub some_plan : SomeAsksNothing (length part.slots) part.templates
   pub slots_count : length part.slots ≡ length blocked.block.slots
   pub slots_are : (s : ℕ) (slot : Slot) (own : SlotPart) → slice_get blocked.block.slots s ≡ Some slot → slice_get part.slots s ≡ Some own → IsSlotPart setting blocked.block task s slot own
 

@@ -1,6 +1,6 @@
 //! Branch and bound.
 ghost use Rattle.std.specs.Prelude.{◌≡◌, ◌≤◌, length};
-ghost use Rattle.adv_base.specs.declared.limits.TheConstants.{MOST_CANDIDATES, MOST_NODES, MOST_ROWS};
+ghost use Rattle.adv_base.specs.declared.limits.TheConstants.{MOST_CANDIDATES, MOST_NODES, MOST_PAGES};
 ghost use Rattle.branch_bound.specs.Answers.{IsBestForEach};
 ghost use Rattle.branch_bound.specs.Rooms.{IsRoomFor};
 ghost use Rattle.branch_bound.specs.Sides as sides;
@@ -87,7 +87,7 @@ pub fn search(
     room: Room,
     proposed: &mut Proposals,
 ) -> Answer
-    requires budget { budget ≤ MOST_ROWS }
+    requires budget { budget ≤ MOST_PAGES }
     requires some_node { 1 ≤ nodes }
     requires nodes { nodes ≤ MOST_NODES }
     requires root { sides.IsRoot programme.now shapes.now budget root.now }

@@ -1,6 +1,6 @@
 //! What stays the same in a walk.
 ghost use Rattle.std.specs.Prelude.{◌≤◌, All, length};
-ghost use Rattle.adv_base.specs.declared.limits.TheConstants.{MOST_NODES, MOST_ROWS, MOST_SETS};
+ghost use Rattle.adv_base.specs.declared.limits.TheConstants.{MOST_NODES, MOST_PAGES, MOST_SETS};
 ghost use Rattle.bip_model.specs.Views.{AreMultipliers};
 ghost use Rattle.lagrange_bound.specs.Ledgers.{AreCheaperParts};
 
@@ -25,7 +25,7 @@ pub(crate) struct Frame<'a> {
     pub plan: &'a [Step],
     pub stops: bool,
     pub cheaper: &'a CheaperParts,
-    pub ghost budget_most: { budget ≤ MOST_ROWS },
+    pub ghost budget_most: { budget ≤ MOST_PAGES },
     pub ghost nodes_most: { nodes ≤ MOST_NODES },
     pub ghost zeros_fit: { AreMultipliers programme.now zeros.now },
     pub ghost sets_few: { length sets.now ≤ MOST_SETS },

@@ -1,6 +1,6 @@
 //! What a search is asked.
 ghost use Rattle.std.specs.Prelude.{◌≡◌, ◌≤◌};
-ghost use Rattle.adv_base.specs.declared.limits.TheConstants.{MOST_ROWS, MOST_SETS};
+ghost use Rattle.adv_base.specs.declared.limits.TheConstants.{MOST_PAGES, MOST_SETS};
 ghost use Rattle.branch_bound.specs.Sides as sides;
 ghost use Rattle.branch_bound.specs.inner.Climbs as climbs;
 
@@ -20,7 +20,7 @@ pub(crate) struct Task<'a> {
     pub root: &'a Fix,
     pub bare: Costed,
     pub most: usize,
-    pub ghost budget_most: { budget ≤ MOST_ROWS },
+    pub ghost budget_most: { budget ≤ MOST_PAGES },
     pub ghost bare_inside: { bare.config ≡ sides.inside root.now },
     pub ghost bare_sound: { climbs.IsSoundHere programme.now shapes.now budget root.now bare },
     pub ghost most_sets: { most ≤ MOST_SETS },

@@ -1,6 +1,6 @@
 //! One search of a sweep.
 ghost use Rattle.std.specs.Prelude.{◌≤◌, IfOk};
-ghost use Rattle.adv_base.specs.declared.limits.TheConstants.{MOST_NODES, MOST_ROWS};
+ghost use Rattle.adv_base.specs.declared.limits.TheConstants.{MOST_NODES, MOST_PAGES};
 ghost use Rattle.budget_sweep.specs.inner.Passes as passes;
 
 use adv_base::{IndexShape, NoMemory};
@@ -17,7 +17,7 @@ pub(crate) fn searched(
     nodes: u32,
     proposed: &mut Proposals,
 ) -> Result<Answer, NoMemory>
-    requires budget { budget ≤ MOST_ROWS }
+    requires budget { budget ≤ MOST_PAGES }
     requires some_node { 1 ≤ nodes }
     requires nodes { nodes ≤ MOST_NODES }
     ensures { IfOk result (passes.IsFreeBest programme.now shapes.now budget nodes) }

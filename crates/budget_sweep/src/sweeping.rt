@@ -1,6 +1,6 @@
 //! The searches of a sweep, in order, and the curve that they make.
 ghost use Rattle.std.specs.Prelude.{◌≡◌, ◌+◌, ◌-◌, ◌*◌, ◌<◌, ◌≤◌, ◌∷◌, ◌++◌, [], IfOk, length};
-ghost use Rattle.adv_base.specs.declared.limits.TheConstants.{MOST_NODES, MOST_ROWS};
+ghost use Rattle.adv_base.specs.declared.limits.TheConstants.{MOST_NODES, MOST_PAGES};
 ghost use Rattle.budget_sweep.specs.Curves.{IsCurveForEach};
 ghost use Rattle.budget_sweep.specs.inner.Passes as passes;
 
@@ -14,9 +14,9 @@ use std::alloc::Global;
 /// A budget of a sweep, by its number from 0.
 fn budget_at(first: u64, step: u64, count: u32, number: u32) -> u64
     requires within { number < count }
-    requires last { first + step * (count - 1) ≤ MOST_ROWS }
+    requires last { first + step * (count - 1) ≤ MOST_PAGES }
     ensures budget { result ≡ first + step * number }
-    ensures most { result ≤ MOST_ROWS }
+    ensures most { result ≤ MOST_PAGES }
 {
     first + step * number as u64
 }
@@ -48,7 +48,7 @@ fn backward(
     count: u32,
     nodes: u32,
 ) -> Result<Vec<Answer>, NoMemory>
-    requires last { first + step * (count - 1) ≤ MOST_ROWS }
+    requires last { first + step * (count - 1) ≤ MOST_PAGES }
     requires some_node { 1 ≤ nodes }
     requires nodes { nodes ≤ MOST_NODES }
     ensures count { IfOk result (λ answers. length answers.items ≡ count) }
@@ -85,7 +85,7 @@ fn forward(
     count: u32,
     nodes: u32,
 ) -> Result<Vec<Point>, NoMemory>
-    requires last { first + step * (count - 1) ≤ MOST_ROWS }
+    requires last { first + step * (count - 1) ≤ MOST_PAGES }
     requires some_node { 1 ≤ nodes }
     requires nodes { nodes ≤ MOST_NODES }
     ensures count { IfOk result (λ points. length points.items ≡ count) }
@@ -119,7 +119,7 @@ pub fn sweep(
     requires some_step { 1 ≤ step }
     requires some { 1 ≤ count }
     requires most { count ≤ 16 }
-    requires last { first + step * (count - 1) ≤ MOST_ROWS }
+    requires last { first + step * (count - 1) ≤ MOST_PAGES }
     requires some_node { 1 ≤ nodes }
     requires nodes { nodes ≤ MOST_NODES }
     ensures { IfOk result (IsCurveForEach programme.now shapes.now first step count nodes) }

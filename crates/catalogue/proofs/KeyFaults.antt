@@ -3,7 +3,7 @@ use Rattle.std.proofs.Common.{◌≡◌, ◌≢◌, ℕ, ◌+◌, length, Bool, 
 use Rattle.std.specs.Prelude.{codes, not, ◌&&◌, nat_eq, nat_lt, if◌then◌else◌}
 use Rattle.std.specs.List.{list_any}
 use Rattle.toml.specs.Data.{Data, Items, no_items, item, Members, get_member, as_integer, as_str, as_bool, as_array, as_table}
-use Rattle.adv_base.specs.declared.limits.TheConstants.{MOST_ROWS, MOST_RATE, MOST_WIDTH, MOST_BOUNDS, MOST_TABLES, MOST_COLUMNS, MOST_KEYS}
+use Rattle.adv_base.specs.declared.limits.TheConstants.{MOST_ROWS, MOST_PAGES, MOST_RATE, MOST_WIDTH, MOST_BOUNDS, MOST_TABLES, MOST_COLUMNS, MOST_KEYS}
 use Rattle.adv_base.specs.declared.catalogue.column.Kind.{Kind}
 use Rattle.adv_base.specs.declared.catalogue.column.Kind.TheVariants.{Int, Text, Date}
 use Rattle.catalogue.specs.declared.fault.CatFault.{CatFault}
@@ -245,7 +245,7 @@ size_of-keys : (t : ℕ) (keys : Members) → IsOfKeys (size_of t keys)
 unfolding size_of
 size_of-keys t keys =
     bind-keys _ _ (needed-keys (codes "rows") (table_path t Rows) (natural 0 MOST_ROWS) keys (natural-keys 0 MOST_ROWS)) (λ rows.
-    bind-keys _ _ (needed-keys (codes "pages") (table_path t Pages) (natural 0 MOST_ROWS) keys (natural-keys 0 MOST_ROWS)) (λ pages. ok-keys _))
+    bind-keys _ _ (needed-keys (codes "pages") (table_path t Pages) (natural 0 MOST_PAGES) keys (natural-keys 0 MOST_PAGES)) (λ pages. ok-keys _))
 
 may_cluster_of-keys : (version t : ℕ) (keys : Members) → IsOfKeys (may_cluster_of version t keys)
 may_cluster_of-keys version t keys =

@@ -4,7 +4,7 @@ use Rattle.std.specs.List.{list_any}
 use Rattle.std.specs.Str.{is_utf8}
 use Rattle.toml.specs.Data.{Data, Members}
 use Rattle.toml.specs.Parse.{parse_document}
-use Rattle.adv_base.specs.declared.limits.TheConstants.{MOST_ROWS, MOST_RATE, MOST_WIDTH, MOST_BOUNDS, MOST_TABLES, MOST_COLUMNS, MOST_INDEXES, MOST_KEYS}
+use Rattle.adv_base.specs.declared.limits.TheConstants.{MOST_ROWS, MOST_PAGES, MOST_RATE, MOST_WIDTH, MOST_BOUNDS, MOST_TABLES, MOST_COLUMNS, MOST_INDEXES, MOST_KEYS}
 use Rattle.adv_base.specs.declared.catalogue.column.Kind.{Kind}
 use Rattle.adv_base.specs.declared.catalogue.column.Kind.TheVariants.{Text}
 use Rattle.adv_base.specs.Readings.{◌>>=◌, or_fault, where_holds}
@@ -183,7 +183,7 @@ indexes_of t columns before path d = elements path d >>= read_each (next_index t
 unfoldable pub size_of : ℕ → Members → Result (ℕ × ℕ) CatFault
 size_of t keys = do
   rows ← needed (codes "rows") (table_path t Rows) (natural 0 MOST_ROWS) keys
-  pages ← needed (codes "pages") (table_path t Pages) (natural 0 MOST_ROWS) keys
+  pages ← needed (codes "pages") (table_path t Pages) (natural 0 MOST_PAGES) keys
   Ok (rows, pages)
 
 -- whether table t may be clustered anew; version 1 passes the key over

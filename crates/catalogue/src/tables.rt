@@ -1,6 +1,6 @@
 //! The tables of a catalogue.
 ghost use Rattle.std.specs.Prelude.{◌≡◌, ◌≤◌, ◌<◌, ◌+◌, ◌∷◌, ◌++◌, [], codes, length, All, IfOk, OnOk};
-ghost use Rattle.adv_base.specs.declared.limits.TheConstants.{MOST_ROWS, MOST_TABLES, MOST_COLUMNS, MOST_INDEXES};
+ghost use Rattle.adv_base.specs.declared.limits.TheConstants.{MOST_PAGES, MOST_ROWS, MOST_TABLES, MOST_COLUMNS, MOST_INDEXES};
 ghost use Rattle.toml.specs.View.{view, items_view, table_view};
 ghost use Rattle.adv_base.specs.Limits.Catalogues.{CatalogueLimits};
 ghost use Rattle.catalogue.specs.Catalogue as rows;
@@ -15,7 +15,7 @@ use crate::indexes::indexes;
 use crate::names::Names;
 use crate::paths::table_path;
 use crate::{keys, values};
-use adv_base::limits::{MOST_ROWS, MOST_TABLES};
+use adv_base::limits::{MOST_PAGES, MOST_ROWS, MOST_TABLES};
 use adv_base::{Column, Index, List, Table};
 use std::alloc::{AllocError, Global};
 use toml::Value;
@@ -44,12 +44,12 @@ fn needed_columns(
 #[tactic(auto, unfolding(crate::specs::Catalogue::size_of))]
 fn size(number: u32, found: &toml::Table) -> Result<(u64, u64), CatFault>
     ensures exact { Gives (λ x. x) result (rows.size_of number (table_view found.now)) }
-    ensures most { IfOk result (λ x. (x.0 ≤ MOST_ROWS) × (x.1 ≤ MOST_ROWS)) }
+    ensures most { IfOk result (λ x. (x.0 ≤ MOST_ROWS) × (x.1 ≤ MOST_PAGES)) }
 {
     let path = table_path(number, KeyField::Rows);
     let rows = keys::needed_natural(found, "rows", path, 0, MOST_ROWS)?;
     let path = table_path(number, KeyField::Pages);
-    let pages = keys::needed_natural(found, "pages", path, 0, MOST_ROWS)?;
+    let pages = keys::needed_natural(found, "pages", path, 0, MOST_PAGES)?;
     Ok((rows, pages))
 }
 

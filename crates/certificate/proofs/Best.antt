@@ -8,7 +8,7 @@ use Rattle.std.proofs.lemmas.List.{length-map}
 use Rattle.std.proofs.lemmas.List.Elements.{All-cons, All-append, All-nil}
 use Rattle.std.proofs.lemmas.Option.{slice_get_within}
 use Rattle.adv_base.specs.declared.catalogue.index.IndexShape.{IndexShape}
-use Rattle.adv_base.specs.declared.limits.TheConstants.{MOST_RENT, MOST_ROWS, MOST_NODES}
+use Rattle.adv_base.specs.declared.limits.TheConstants.{MOST_RENT, MOST_PAGES, MOST_NODES}
 use Rattle.adv_base.specs.declared.workload.Statement.{Statement}
 use Rattle.adv_base.specs.declared.workload.Work.{Work}
 use Rattle.adv_base.specs.declared.workload.Work.TheVariants.{Select, Update, Delete, Insert}
@@ -152,7 +152,7 @@ shown-limits rule setting budget bound sets node Full limits shows =
 -- ## The law
 
 pub best-keeps : (setting : TheSetting) (programme : Programme) (budget node_budget : ℕ) (root : nodes.Node) (answer : Answer) → KeepsLimits setting → StandsFor setting programme →
-    budget ≤ MOST_ROWS → node_budget ≤ MOST_NODES → IsBest setting budget node_budget root answer → AnswerLimits programme budget answer
+    budget ≤ MOST_PAGES → node_budget ≤ MOST_NODES → IsBest setting budget node_budget root answer → AnswerLimits programme budget answer
 best-keeps setting programme budget node_budget root answer limits stands few_pages few_nodes best =
     let shown = best.proves.shown in
     let count : length (sets_in setting answer) ≡ length answer.sets = length-map answer.sets (multipliers_in setting) in

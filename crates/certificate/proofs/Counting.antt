@@ -11,7 +11,7 @@ use Rattle.certificate.specs.declared.stage.Stage.TheVariants as stages
 use Rattle.certificate.specs.declared.outline.TheConstants.{FIRST_PLACE}
 use Rattle.certificate.specs.inner.Drafts.{IsFresh, IsBody, StageFits, DraftFits}
 use Rattle.certificate.specs.inner.Outlines.{Draft, with_tree}
-use Rattle.certificate.specs.inner.Readings.{counts_of, with_line, front_of, front_at, Reaches}
+use Rattle.certificate.specs.inner.Pieces.{counts_of, with_line, front_of, front_at, Reaches}
 use Rattle.certificate.specs.inner.Runs.{head_of, lines_at, Run}
 use Rattle.certificate.specs.inner.Steps.{start, is_front, trees_after, closed, closed_by, with_set, with_entry, StepAt, BodyStep, NodeStep}
 use Rattle.certificate.proofs.Keeps.{run-lines, run-more}

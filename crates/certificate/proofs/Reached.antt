@@ -11,7 +11,7 @@ use Rattle.certificate.specs.Texts.{text_of, cert_lines, cert_text}
 use Rattle.certificate.specs.declared.cert.Cert.{Cert}
 use Rattle.certificate.specs.inner.Drafts.{DraftFits, cert_of}
 use Rattle.certificate.specs.inner.Outlines.{Draft}
-use Rattle.certificate.specs.inner.Readings.{Breaks}
+use Rattle.certificate.specs.inner.Pieces.{Breaks}
 use Rattle.certificate.specs.inner.Runs.{Run}
 use Rattle.certificate.specs.inner.Steps.{start, StepAt}
 use Rattle.certificate.proofs.Breaks.{breaks-at}

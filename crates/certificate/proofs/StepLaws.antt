@@ -106,11 +106,6 @@ with_entry-fits entry left d is limits low high h =
     }
     )
 
--- what a step leaves of the rest of a draft
-closed-stage : (n : ℕ) (d : Draft) → ((closed_by n d).stage ≡ d.stage) × ((closed_by n d).tree ≡ d.tree) × ((closed_by n d).trees_left ≡ d.trees_left) × ((closed_by n d).nodes_left ≡ d.nodes_left)
-closed-stage zero d = (refl, refl, refl, refl)
-closed-stage (suc n) d = (refl, refl, refl, refl)
-
 -- what is known of an outline with some tree
 pub outline-fits : (o : Outline) (tree : List Node) → DraftFits (with_tree o tree) → OutlineFits o
 outline-fits o tree fits = record {

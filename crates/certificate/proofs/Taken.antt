@@ -3,7 +3,7 @@ use Rattle.std.proofs.Common.{◌≡◌, ◌≢◌, ◌∙◌, ℕ, zero, suc, �
 use Rattle.std.specs.Prelude.{ℤ, pos, negsuc, decimal, codes}
 use Rattle.std.specs.Fmt.{signed_decimal}
 use Rattle.std.proofs.lemmas.List.{append_cancel_left}
-use Rattle.adv_base.specs.declared.limits.TheConstants.{MOST_CANDIDATES, MOST_STATEMENTS, MOST_SLOTS, MOST_PAGE_PRICE, MOST_NODES, MOST_ROWS, MOST_SETS}
+use Rattle.adv_base.specs.declared.limits.TheConstants.{MOST_CANDIDATES, MOST_STATEMENTS, MOST_SLOTS, MOST_PAGE_PRICE, MOST_NODES, MOST_PAGES, MOST_SETS}
 use Rattle.bip_model.specs.declared.answer.Node.{Node}
 use Rattle.bip_model.specs.declared.answer.Node.TheVariants.{Branch, Bounded, Overfull}
 use Rattle.certificate.specs.Limits.{Rise, IsSmall, EntryLimits, NodeLimits, entry_place}
@@ -26,7 +26,7 @@ pub one-title : (n p : ℕ) → n ≤ 2 → p ≤ 2 → title_line n ≡ title_l
 unfolding title_line
 one-title n p small few e = one-word (codes "cophy certificate") n p (omega arith) (omega arith) e
 
-pub one-budget : (n p : ℕ) → n ≤ MOST_ROWS → p ≤ MOST_ROWS → budget_line n ≡ budget_line p → n ≡ p
+pub one-budget : (n p : ℕ) → n ≤ MOST_PAGES → p ≤ MOST_PAGES → budget_line n ≡ budget_line p → n ≡ p
 unfolding budget_line
 one-budget n p small few e = one-word (codes "budget") n p (omega arith) (omega arith) e
 

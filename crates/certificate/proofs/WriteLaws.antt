@@ -137,13 +137,6 @@ pub parts-end : (i : ℕ) (parts : List Part) (rents : List ℕ) → length part
 unfolding entries_text
 parts-end i parts rents h = at_drop_all (λ (ps : List Part). text_of (map entry_line (entries_of (part_places ps) rents))) parts i h
 
-length-part_places : (parts : List Part) → length (part_places parts) ≡ sum_by part_grants parts
-length-part_places [] = refl
-length-part_places (part ∷ parts) =
-    length-append (slot_places part.statement 0 part.slots) (part_places parts)
-    ∙ (λ i. length-slot_places part.statement 0 part.slots i + length-part_places parts i)
-    ∙ sym (sum_by-cons part_grants part parts)
-
 -- sets
 
 count-entry : (place : Place) (rent : ℕ) → length (entry_of place rent) ≡ cond (not (rent == 0)) 1 0

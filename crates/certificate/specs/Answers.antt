@@ -2,7 +2,7 @@
 use Rattle.std.specs.Prelude.{ℕ, zero, suc, ◌<◌, ◌≤◌, ◌^◌, if◌then◌else◌, not, ◌==◌, Bool, true, false, List, [], ◌∷◌, ◌++◌, length, map, All, sum_by, count_by}
 use Rattle.std.specs.List.{AllByRecursion, list_any}
 use Rattle.adv_base.specs.declared.catalogue.index.IndexShape.{IndexShape}
-use Rattle.adv_base.specs.declared.limits.TheConstants.{MOST_ROWS, MOST_SETS, MOST_ENTRIES, MOST_NODES}
+use Rattle.adv_base.specs.declared.limits.TheConstants.{MOST_PAGES, MOST_SETS, MOST_ENTRIES, MOST_NODES}
 use Rattle.adv_base.specs.Nodes as nodes
 use Rattle.adv_base.specs.Settings.{TheSetting, KeepsLimits}
 use Rattle.bip_model.specs.declared.answer.Answer.{Answer}
@@ -63,7 +63,7 @@ rent_count rents = count_by (λ rent. not (rent == 0)) rents
 -- An answer keeps the limits of certificates: of the budget, of costs, of the multipliers and how many of them aren't 0, and
 -- of the tree, which is a whole one.
 pub record AnswerLimits (programme : Programme) (budget : ℕ) (answer : Answer) : Type 0 where
-  pub budget_most : budget ≤ MOST_ROWS
+  pub budget_most : budget ≤ MOST_PAGES
   pub cost_small : answer.cost < 2 ^ 127
   pub bound_small : IsSmall answer.bound
   pub few_sets : length answer.sets ≤ MOST_SETS
@@ -96,5 +96,5 @@ StandingInOrder = (setting : TheSetting) (programme : Programme) → StandsFor s
 abbrev pub BestKeepLimits : Type 0
 BestKeepLimits =
     (setting : TheSetting) (programme : Programme) (budget node_budget : ℕ) (root : nodes.Node) (answer : Answer) → KeepsLimits setting →
-    StandsFor setting programme → budget ≤ MOST_ROWS → node_budget ≤ MOST_NODES → IsBest setting budget node_budget root answer →
+    StandsFor setting programme → budget ≤ MOST_PAGES → node_budget ≤ MOST_NODES → IsBest setting budget node_budget root answer →
     AnswerLimits programme budget answer

@@ -1,7 +1,7 @@
 -- The head of a certificate, and of the bytes that are its text.
 use Rattle.std.specs.Prelude.{◌≡◌, ℕ, ◌<◌, ◌≤◌, ◌^◌, List, [], ◌∷◌, ◌++◌, length, map}
 use Rattle.std.specs.List.{AllByRecursion}
-use Rattle.adv_base.specs.declared.limits.TheConstants.{MOST_ROWS, MOST_SETS, MOST_ENTRIES, MOST_NODES, MOST_CERTIFICATE_BYTES}
+use Rattle.adv_base.specs.declared.limits.TheConstants.{MOST_PAGES, MOST_SETS, MOST_ENTRIES, MOST_NODES, MOST_CERTIFICATE_BYTES}
 use Rattle.bip_model.specs.declared.answer.Node.{Node}
 use Rattle.certificate.specs.Certificates.{IsCertificate}
 use Rattle.certificate.specs.Limits.{Rise, IsSmall, SetLimits, entry_count}
@@ -42,7 +42,7 @@ pub record IsHeadOf (bytes : List ℕ) (head : Head) : Type 0 where
 pub record HeadLimits (head : Head) : Type 0 where
   pub version_least : 1 ≤ head.version
   pub version_most : head.version ≤ 2
-  pub budget : head.budget ≤ MOST_ROWS
+  pub budget : head.budget ≤ MOST_PAGES
   pub config : Rise 1 head.config
   pub cost : head.cost < 2 ^ 127
   pub bound : IsSmall head.bound

@@ -1,7 +1,7 @@
 -- What a certificate keeps.
 use Rattle.std.specs.Prelude.{ℕ, zero, suc, ◌+◌, ◌*◌, ◌<◌, ◌≤◌, ◌^◌, ℤ, pos, negsuc, List, [], ◌∷◌, length, sum_by}
 use Rattle.std.specs.List.{AllByRecursion}
-use Rattle.adv_base.specs.declared.limits.TheConstants.{MOST_ROWS, MOST_CANDIDATES, MOST_STATEMENTS, MOST_SLOTS, MOST_RENT, MOST_PAGE_PRICE, MOST_SETS, MOST_ENTRIES, MOST_NODES}
+use Rattle.adv_base.specs.declared.limits.TheConstants.{MOST_PAGES, MOST_CANDIDATES, MOST_STATEMENTS, MOST_SLOTS, MOST_RENT, MOST_PAGE_PRICE, MOST_SETS, MOST_ENTRIES, MOST_NODES}
 use Rattle.bip_model.specs.declared.answer.Node.{Node}
 use Rattle.bip_model.specs.declared.answer.Node.TheVariants.{Branch, Bounded, Overfull}
 use Rattle.certificate.specs.declared.cert.Cert.{Cert}
@@ -66,7 +66,7 @@ entry_count sets = sum_by (λ set. length set.entries) sets
 pub record CertLimits (cert : Cert) : Type 0 where
   pub version_least : 1 ≤ cert.version
   pub version_most : cert.version ≤ 2
-  pub budget : cert.budget ≤ MOST_ROWS
+  pub budget : cert.budget ≤ MOST_PAGES
   pub config : Rise 1 cert.config
   pub cost : cert.cost < 2 ^ 127
   pub bound : IsSmall cert.bound

@@ -7,7 +7,7 @@ use crate::cert::{Entry, SparseSet};
 use crate::forms::{bound_line, config_line, entry_line, node_line, number_line, set_line};
 use crate::stage::{Stage, Taken};
 use crate::words::is_word;
-use adv_base::limits::{MOST_ENTRIES, MOST_NODES, MOST_ROWS, MOST_SETS};
+use adv_base::limits::{MOST_ENTRIES, MOST_NODES, MOST_PAGES, MOST_SETS};
 use adv_base::{List, NoMemory};
 use bip_model::Node;
 use std::alloc::Global;
@@ -151,7 +151,7 @@ impl Outline {
     fn take_budget(&mut self, line: &[u8]) -> Taken
         ensures { steps.TakesAt stages.Budget result self.old line.now self.new }
     {
-        match number_line(line, b"budget", 0, MOST_ROWS as u128) {
+        match number_line(line, b"budget", 0, MOST_PAGES as u128) {
             None => Taken::Refused,
             Some(budget) => {
                 self.budget = budget as u64;

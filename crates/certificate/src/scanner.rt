@@ -1,7 +1,7 @@
 //! Certificates that are read in pieces.
 ghost use Rattle.certificate.specs.inner.States.{IsReachedAt};
 
-use crate::reading::Reading;
+use crate::pieces::Reading;
 use crate::state::State;
 use crate::{CertFault, Head};
 use adv_base::NoMemory;

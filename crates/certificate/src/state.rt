@@ -1,7 +1,7 @@
 //! What became of a text that is read in pieces.
 ghost use Rattle.std.specs.Prelude.{◌≡◌, ◌++◌, ℕ, List, IsErr, IfOk, IfErr, IsErrOf};
 
-use crate::reading::Reading;
+use crate::pieces::Reading;
 use crate::{CertFault, Head};
 use adv_base::NoMemory;
 use std::alloc::Global;

@@ -1,11 +1,13 @@
 //! What may be asked for, and how the words of a command line ask for it.
 ghost use Rattle.std.specs.Prelude.{◌≡◌, ◌<◌, ◌≤◌, ◌↔◌, Ok, IfOk};
+ghost use Rattle.adv_base.specs.declared.limits.TheConstants.{MOST_PAGES};
 ghost use Rattle.command_line.specs.Spellings.{IsCommandLine, IsInRange};
 ghost use Rattle.command_line.specs.CommandLine as spec;
 ghost use Rattle.command_line.specs.inner.Arguments.{by_row};
 
 use crate::WordFault;
 use crate::arguments::Arguments;
+use adv_base::limits::MOST_PAGES;
 
 /// How many nodes a search may have where no word says it.
 pub const DEFAULT_NODES: u32 = 20000;
@@ -101,16 +103,13 @@ pub enum Command<'a> {
     },
 }
 
-/// The most pages of a space budget.
-const MOST_BUDGET: u64 = 1000000000000;
-
 /// The most budgets of a sweep.
 const MOST_POINTS: u64 = 16;
 
 /// The last of so many budgets, from the first one in steps.
 fn last_budget(first: u64, step: u64, count: u32) -> u64
-    requires first { first ≤ MOST_BUDGET }
-    requires step { step ≤ MOST_BUDGET }
+    requires first { first ≤ MOST_PAGES }
+    requires step { step ≤ MOST_PAGES }
     requires few { count ≤ MOST_POINTS }
     ensures { result ≡ spec.last_budget first step count }
 {
@@ -177,7 +176,7 @@ impl<'a> Arguments<'a> {
     {
         let cat = self.file();
         let load = self.file();
-        let budget = self.number(0, MOST_BUDGET);
+        let budget = self.number(0, MOST_PAGES);
         let given = self.options(true)?;
         Ok(Command::Advise {
             cat,
@@ -195,7 +194,7 @@ impl<'a> Arguments<'a> {
     {
         let cat = self.file();
         let load = self.file();
-        let budget = self.number(0, MOST_BUDGET);
+        let budget = self.number(0, MOST_PAGES);
         let rules = self.file();
         let given = self.options(true)?;
         Ok(Command::Ruled {
@@ -215,10 +214,10 @@ impl<'a> Arguments<'a> {
     {
         let cat = self.file();
         let load = self.file();
-        let first = self.number(0, MOST_BUDGET);
-        let step = self.number(1, MOST_BUDGET);
+        let first = self.number(0, MOST_PAGES);
+        let step = self.number(1, MOST_PAGES);
         let count = self.number(1, MOST_POINTS) as u32;
-        self.together(last_budget(first, step, count) <= MOST_BUDGET);
+        self.together(last_budget(first, step, count) <= MOST_PAGES);
         let given = self.options(true)?;
         Ok(Command::Sweep {
             cat,
@@ -239,7 +238,7 @@ impl<'a> Arguments<'a> {
         let cat = self.file();
         let load = self.file();
         let edits = self.file();
-        let budget = self.number(0, MOST_BUDGET);
+        let budget = self.number(0, MOST_PAGES);
         let given = self.options(false)?;
         Ok(Command::Retune {
             cat,
@@ -299,7 +298,7 @@ impl<'a> Arguments<'a> {
             seed: self.number(0, u64::MAX),
             tables: self.number(2, 20) as u32,
             statements: self.number(1, 500) as u32,
-            budget: self.number(0, MOST_BUDGET),
+            budget: self.number(0, MOST_PAGES),
         };
         self.end(command)
     }

@@ -71,18 +71,18 @@ pub record Laws : Type 0 where
   pub broken : OneBroken
 
 -- bytes are the text of a certificate to which this may be answered
-abbrev IsTold : TheSetting → nodes.Node → List ℕ → Result Checked CheckFault → Type 0
-IsTold setting root bytes answer = (cert : Cert) × IsCertificate bytes cert × IsAnswer setting root cert answer
+abbrev AnswersText : TheSetting → nodes.Node → List ℕ → Result Checked CheckFault → Type 0
+AnswersText setting root bytes answer = (cert : Cert) × IsCertificate bytes cert × IsAnswer setting root cert answer
 
-one-told : Laws → (setting : TheSetting) (root : nodes.Node) (bytes : List ℕ) (answer other : Result Checked CheckFault) → IsTold setting root bytes answer → IsTold setting root bytes other → answer ≡ other
+one-told : Laws → (setting : TheSetting) (root : nodes.Node) (bytes : List ℕ) (answer other : Result Checked CheckFault) → AnswersText setting root bytes answer → AnswersText setting root bytes other → answer ≡ other
 one-told laws setting root bytes answer other p q =
     let same : p.0 ≡ q.0 = laws.one bytes p.0 q.0 p.1 q.1 in
     laws.answers setting root q.0 answer other q.1.limits (subst (λ (cert : Cert). IsAnswer setting root cert answer) same p.2) q.2
 
-proved-told : (setting : TheSetting) (root : nodes.Node) (bytes : List ℕ) (checked : Checked) → IsProved setting root bytes checked → IsTold setting root bytes (Ok checked)
+proved-told : (setting : TheSetting) (root : nodes.Node) (bytes : List ℕ) (checked : Checked) → IsProved setting root bytes checked → AnswersText setting root bytes (Ok checked)
 proved-told setting root bytes checked p = (p.cert, p.cert_is, p.checked_is)
 
-faulty-told : (setting : TheSetting) (root : nodes.Node) (bytes : List ℕ) (fault : CheckFault) → IsFaulty setting root bytes fault → IsTold setting root bytes (Err fault)
+faulty-told : (setting : TheSetting) (root : nodes.Node) (bytes : List ℕ) (fault : CheckFault) → IsFaulty setting root bytes fault → AnswersText setting root bytes (Err fault)
 faulty-told setting root bytes fault p = (p.cert, p.cert_is, (p.no_memory, p.fault_is))
 
 -- a certificate whose configuration is below the root isn't said to disobey it

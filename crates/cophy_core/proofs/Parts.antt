@@ -43,7 +43,7 @@ parts_same setting at statement parts found none are =
     subst (λ (bs : List Blocked). AreEach (IsPart setting) bs parts) same are
 
 -- one with a block has the first, and those behind it have the rest
-pub record IsTaken (setting : TheSetting) (at : ℕ) (statement : Statement) (block : Block) (parts : List Part) : Type 0 where
+pub record HasFirstPart (setting : TheSetting) (at : ℕ) (statement : Statement) (block : Block) (parts : List Part) : Type 0 where
   pub part : Part
   pub rest : List Part
   pub parts_are : parts ≡ part ∷ rest
@@ -51,11 +51,11 @@ pub record IsTaken (setting : TheSetting) (at : ℕ) (statement : Statement) (bl
   pub rest_are : ArePartsFrom setting (at + 1) rest
 
 taken : (setting : TheSetting) (at : ℕ) (statement : Statement) (block : Block) (parts : List Part) →
-    AreEach (IsPart setting) (blocked_in (at + 1) statement.weight (Some block) (blocked_from (at + 1 + 1) (drop (at + 1) setting.statements))) parts → IsTaken setting at statement block parts
+    AreEach (IsPart setting) (blocked_in (at + 1) statement.weight (Some block) (blocked_from (at + 1 + 1) (drop (at + 1) setting.statements))) parts → HasFirstPart setting at statement block parts
 taken setting at statement block [] are = absurd are
 taken setting at statement block (part ∷ rest) are = record { part = part; rest = rest; parts_are = refl; part_is = are.0; rest_are = are.1 }
 
-pub parts_taken : (setting : TheSetting) (at : ℕ) (statement : Statement) (block : Block) (parts : List Part) → slice_get setting.statements at ≡ Some statement → block_of statement.work ≡ Some block → ArePartsFrom setting at parts → IsTaken setting at statement block parts
+pub parts_taken : (setting : TheSetting) (at : ℕ) (statement : Statement) (block : Block) (parts : List Part) → slice_get setting.statements at ≡ Some statement → block_of statement.work ≡ Some block → ArePartsFrom setting at parts → HasFirstPart setting at statement block parts
 parts_taken setting at statement block parts found is are =
     let same = blocked_next setting.statements at statement found ∙ ap (λ (b : Option Block). blocked_in (at + 1) statement.weight b (blocked_from (at + 1 + 1) (drop (at + 1) setting.statements))) is in
     taken setting at statement block parts (subst (λ (bs : List Blocked). AreEach (IsPart setting) bs parts) same are)

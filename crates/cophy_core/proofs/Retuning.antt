@@ -39,9 +39,6 @@ same_by x y weights works =
     let limits = is_prop→PathP (λ i. StatementLimits (weights i) (works i)) (λ i. statement_prop (weights i) (works i)) x.limits y.limits in
     λ i. record { weight = weights i; work = works i; limits = limits i }
 
-one_parsed : (sql : List ℕ) (p q : ParsedStatement) → p ∷ [] ≡ q ∷ [] → p ≡ q
-one_parsed sql p q e = cc
-
 -- bytes mean one statement
 one_addition : (cat : Catalogue) (weight : ℕ) (sql : List ℕ) (x y : Statement) → IsAddition cat weight sql x → IsAddition cat weight sql y → x ≡ y
 one_addition cat weight sql x y a b =
@@ -302,15 +299,15 @@ one_untaken script setting line other f g a b =
     cc
 
 -- an edit that is refused by either of the two ways
-abbrev IsOne : List ℕ → TheSetting → ℕ → EditFault → Type 0
-IsOne script setting line fault = ((fault ≡ BadLine) × IsBadLine script line) ⊎ IsUntaken script setting line fault
+abbrev IsRefusedEdit : List ℕ → TheSetting → ℕ → EditFault → Type 0
+IsRefusedEdit script setting line fault = ((fault ≡ BadLine) × IsBadLine script line) ⊎ IsUntaken script setting line fault
 
-as_one : (script : List ℕ) (setting : TheSetting) (line : ℕ) (fault : EditFault) → Refuses script setting (Edit line fault) → IsOne script setting line fault
+as_one : (script : List ℕ) (setting : TheSetting) (line : ℕ) (fault : EditFault) → Refuses script setting (Edit line fault) → IsRefusedEdit script setting line fault
 as_one script setting line BadLine (inl a) = inl (refl, a)
 as_one script setting line BadLine (inr a) = inr a
 as_one script setting line fault a = inr a
 
-one_of_edits : (script : List ℕ) (setting : TheSetting) (line other : ℕ) (f g : EditFault) → IsOne script setting line f → IsOne script setting other g → Edit other g ≡ Edit line f
+one_of_edits : (script : List ℕ) (setting : TheSetting) (line other : ℕ) (f g : EditFault) → IsRefusedEdit script setting line f → IsRefusedEdit script setting other g → Edit other g ≡ Edit line f
 one_of_edits script setting line other f g (inl a) (inl b) =
     let lines = one_bad_line script other line b.1 a.1 in
     let mine = a.0 in
@@ -320,7 +317,7 @@ one_of_edits script setting line other f g (inl a) (inr b) = absurd (no_bad_line
 one_of_edits script setting line other f g (inr a) (inl b) = absurd (no_bad_line script a.edits other a.script_is b.1)
 one_of_edits script setting line other f g (inr a) (inr b) = one_untaken script setting line other f g a b
 
-rich_or_edit : (script : List ℕ) (setting : TheSetting) (n count line : ℕ) (fault : EditFault) → HasTooManyInWorkload script setting n count → IsOne script setting line fault → ⊥
+rich_or_edit : (script : List ℕ) (setting : TheSetting) (n count line : ℕ) (fault : EditFault) → HasTooManyInWorkload script setting n count → IsRefusedEdit script setting line fault → ⊥
 rich_or_edit script setting n count line fault a (inl b) = no_bad_line script a.edits line a.script_is b.1
 rich_or_edit script setting n count line fault a (inr b) = none_beyond setting n count b.few a.first
 

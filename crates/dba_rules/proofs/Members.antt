@@ -27,9 +27,6 @@ cases false true true e = absurd cc
 cases false false true e = (λ h. absurd cc, λ h. absurd cc)
 cases false o false e = (λ h. absurd cc, λ _. refl)
 
-none-in : (has : Bool) → ((false && not has) || (false && has)) ≡ false
-none-in has = refl
-
 pub broken-past : (node : nodes.Node) (config : Config) (a : ℕ) → length node.inside.on ≡ 256 → length node.outside.on ≡ 256 → 256 < a → is_broken node config a ≡ false
 broken-past node config a inside outside past =
     let no = member-within node.inside 256 a inside past in

@@ -1,5 +1,5 @@
 -- A line is read as a rule exactly where it is spelled so.
-use Rattle.std.proofs.Common.{◌≡◌, inl, inr, ℕ, zero, suc, ◌+◌, ◌≤◌, Bool, true, false, cond, if◌then◌else◌, ◌&&◌, ◌||◌, ◌==◌, nat_le, List, [], ◌∷◌, ◌++◌, length, take, drop, codes, Option, Some, None, Result, Ok, Err, refl, sym, ap, subst, ◌∙◌, eqb, eqb-true, eq-eqb, ne_eqb, append_assoc, arith}
+use Rattle.std.proofs.Common.{◌≡◌, inl, inr, ℕ, zero, suc, ◌+◌, ◌≤◌, Bool, true, false, cond, if◌then◌else◌, ◌&&◌, ◌||◌, ◌==◌, nat_le, List, [], ◌∷◌, ◌++◌, length, take, drop, codes, Option, Some, None, Result, Ok, Err, refl, sym, ap, subst, ◌∙◌, eqb, eqb-true, ne_eqb, append_assoc, arith}
 use Rattle.std.specs.List.{list_all, prefix_len}
 use Rattle.std.specs.Option.{option_map_or}
 use Rattle.std.specs.Prelude.{take_while}
@@ -45,10 +45,6 @@ word-front : (word bytes rest : List ℕ) → after word bytes ≡ Some rest →
 word-front [] bytes rest e = cc
 word-front (c ∷ word) [] rest e = absurd cc
 word-front (c ∷ word) (byte ∷ bytes) rest e = word-step (eqb byte c) byte c word bytes rest refl (word-front word bytes rest) e
-
-word-again : (word rest : List ℕ) → after word (word ++ rest) ≡ Some rest
-word-again [] rest = refl
-word-again (c ∷ word) rest = ap (λ (b : Bool). cond b (after word (word ++ rest)) None) (eq-eqb c c refl) ∙ word-again word rest
 
 -- ## Names
 

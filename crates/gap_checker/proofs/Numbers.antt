@@ -44,9 +44,6 @@ all-few numbers count i end before = λ k d within. before k (get_or numbers k d
 
 -- ## The configuration of numbers
 
-some-is : (x y : Bool) → Some x ≡ Some y → x ≡ y
-some-is x y e = cc
-
 -- a flag that is on is that of a candidate that the configuration has
 flag-has : (config : Config) (i : ℕ) → slice_get config.on i ≡ Some true → has_candidate config (suc i) ≡ true
 flag-has config i on = flag-of config i ∙ get_or_from_slice_get config.on i true false on

@@ -28,7 +28,7 @@ use Rattle.gap_checker.specs.Faults.{IsFault, IsSound}
 use Rattle.gap_checker.specs.Views.{sets_of, rule_of, IsProof}
 use Rattle.gap_checker.specs.Visits.{visits, IsRight}
 use Rattle.gap_checker.specs.inner.AtFaults.{at_fault}
-use Rattle.gap_checker.specs.inner.Judges.{setting_of, root_of, rule_in, cert_of, IsWalk, GoesOn, IsNextFault}
+use Rattle.gap_checker.specs.inner.Judges.{setting_of, root_of, rule_in, cert_of, IsWalk, WalksOn, IsNextFault}
 use Rattle.gap_checker.specs.inner.Nodes.{starts_of}
 use Rattle.gap_checker.specs.inner.Readings.{IsJudgeFor, end_count, lines_of, line_number, ReaderFits, HasTaken, Extends, TakesOn, IsTreeFault, IsFaultIn, IsWhole}
 use Rattle.gap_checker.specs.inner.Walks.{trees_after, TreesFit}
@@ -241,7 +241,7 @@ no-byte = λ k d within. absurd (omega (arith, within))
 
 pub takes-node : (judge : Judge) (head : Head) (r n : TreeReader) (node : Node) → ReaderFits head r → r.is_done ≡ false → r.partial ≡ node_line node → NodeLimits (length head.sets) node → r.read < head.nodes →
     TreesFit (trees_after (length r.starts.items) node) (head.nodes - r.read - 1) → n.partial ≡ [] → n.read ≡ r.read + 1 → n.is_done ≡ r.is_done →
-    length n.starts.items ≡ trees_after (length r.starts.items) node → GoesOn judge (starts_of r.starts.items) node (starts_of n.starts.items) → TakesOn judge head r (10 ∷ []) n
+    length n.starts.items ≡ trees_after (length r.starts.items) node → WalksOn judge (starts_of r.starts.items) node (starts_of n.starts.items) → TakesOn judge head r (10 ∷ []) n
 takes-node judge head r n node fits undone line limit less fit b read done count goes =
     let closed : n.is_done ≡ false = done ∙ undone in
     let some : 0 < length r.starts.items = some-starts (length r.starts.items) fits.trees in

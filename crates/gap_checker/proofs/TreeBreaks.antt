@@ -199,11 +199,6 @@ breaks-behind head read trees text rest s all parts some =
 the-line : (head : Head) (read : List Node) (rest line more : List ℕ) (n : Next head read rest) → BeginsWithLine rest line more → n.line ≡ line
 the-line head read rest line more n begins = (one_line rest n.line n.more line more n.begins begins).0
 
-behind-none : (head : Head) (read : List Node) (rest : List ℕ) (n : Next head read rest) → n.fronts.others ≡ [] → length read ≡ head.nodes
-behind-none head read rest n none =
-    let same : n.tree ≡ read = n.fronts.parts ∙ ap (λ (ns : List Node). read ++ ns) none ∙ append-nil read in
-    sym (ap length same) ∙ n.tree_is.count_is
-
 others-count : (head : Head) (read : List Node) (rest : List ℕ) (n : Next head read rest) → length read + length n.fronts.others ≡ head.nodes
 others-count head read rest n = sym (ap length n.fronts.parts ∙ length-append read n.fronts.others) ∙ n.tree_is.count_is
 

@@ -10,6 +10,7 @@ use Rattle.bip_model.specs.declared.answer.Node.TheVariants.{Branch, Bounded, Ov
 use Rattle.bip_model.specs.declared.fix.Fix.{Fix}
 use Rattle.bip_model.specs.Views.{node_of}
 use Rattle.certificate.specs.Limits.{AreTrees}
+use Rattle.certificate.proofs.TreeLaws.{whole-preorder}
 use Rattle.gap_checker.specs.declared.fault.CheckFault.{CheckFault}
 use Rattle.gap_checker.specs.declared.fault.CheckFault.TheVariants as faults
 use Rattle.gap_checker.specs.declared.judge.Judge.{Judge}
@@ -17,11 +18,11 @@ use Rattle.gap_checker.specs.Faults.{IsNodeAt}
 use Rattle.gap_checker.specs.Views.{IsProof}
 use Rattle.gap_checker.specs.Visits.{Visit, visits, IsRight}
 use Rattle.gap_checker.specs.inner.Claims.{sets_in}
-use Rattle.gap_checker.specs.inner.Judges.{setting_of, root_of, rule_in, cert_of, AreSound, IsRightFor, IsWrong, IsWalk, GoesOn, IsNextFault}
+use Rattle.gap_checker.specs.inner.Judges.{setting_of, root_of, rule_in, cert_of, AreSound, IsRightFor, IsWrong, IsWalk, WalksOn, IsNextFault}
 use Rattle.gap_checker.specs.inner.Nodes.{starts_of}
 use Rattle.gap_checker.specs.inner.Walks.{sides, trees_after}
 use Rattle.gap_checker.proofs.Lists.{length-front}
-use Rattle.gap_checker.proofs.Visiting.{right-shown, tree-of}
+use Rattle.gap_checker.proofs.Visiting.{right-shown}
 
 -- ## What is kept
 
@@ -60,7 +61,7 @@ walk-parts : (judge : Judge) (read : List Node) (at : nodes.Node) (starts : List
     visits (root_of judge ∷ []) (read ++ node ∷ rest) ≡ walk.before ++ record { at = at; node = node } ∷ visits (sides at node starts) rest
 walk-parts judge read at starts node rest walk = walk.parts (node ∷ rest) ∙ ap (λ (vs : List Visit). walk.before ++ vs) (next-visits at starts node rest)
 
-pub walk-step : (judge : Judge) (at : nodes.Node) (starts : List nodes.Node) (node : Node) → IsRightFor judge at node → GoesOn judge (at ∷ starts) node (sides at node starts)
+pub walk-step : (judge : Judge) (at : nodes.Node) (starts : List nodes.Node) (node : Node) → IsRightFor judge at node → WalksOn judge (at ∷ starts) node (sides at node starts)
 walk-step judge at starts node right = λ read walk.
     let P : Visit → Type 0 = IsRight (rule_in judge) (setting_of judge) judge.claims.budget judge.claims.bound (sets_in judge.claims) in
     let visit : Visit = record { at = at; node = node } in
@@ -138,25 +139,21 @@ walk-start judge =
       trees = λ rest. (λ are. are, λ are. are);
     }
 
-behind-nothing : (xs : List Node) → xs ≡ xs ++ []
-behind-nothing [] = refl
-behind-nothing (x ∷ xs) = ap (λ (ys : List Node). x ∷ ys) (behind-nothing xs)
-
 -- where a whole tree was read, it is a proof
 pub walk-end : (judge : Judge) (tree : List Node) (starts : List nodes.Node) → AreSound judge → AreTrees 1 tree → IsWalk judge tree starts → IsProof (setting_of judge) (root_of judge) (cert_of judge tree)
 walk-end judge list starts sound are walk =
     let P : Visit → Type 0 = IsRight (rule_in judge) (setting_of judge) judge.claims.budget judge.claims.bound (sets_in judge.claims) in
     let whole : visits (root_of judge ∷ []) (list ++ []) ≡ walk.before = walk.parts [] ∙ append-nil walk.before in
-    let tree = tree-of list are in
+    let tree = whole-preorder list are in
     let all : All P (visits (root_of judge ∷ []) (list ++ [])) = subst (All P) (sym whole) walk.right in
-    let moved = subst (λ (nodes : List Node). All P (visits (root_of judge ∷ []) (nodes ++ []))) tree.list_is all in
+    let moved = subst (λ (nodes : List Node). All P (visits (root_of judge ∷ []) (nodes ++ []))) tree.nodes_are all in
     let is = sound list in
     record {
       members = is.members;
       fits = is.fits;
       cost_is = is.cost_is;
       rents = is.rents;
-      shown = record { tree = tree.tree; list_is = tree.list_is; shows = (right-shown (rule_in judge) (setting_of judge) judge.claims.budget judge.claims.bound (sets_in judge.claims) (root_of judge) [] tree.tree [] moved).0 };
+      shown = record { tree = tree.tree; list_is = tree.nodes_are; shows = (right-shown (rule_in judge) (setting_of judge) judge.claims.budget judge.claims.bound (sets_in judge.claims) (root_of judge) [] tree.tree [] moved).0 };
     }
 
 -- ## A tree's list, node by node

@@ -79,7 +79,7 @@ impl Judge<'_> {
         requires some { 0 < length starts.old.items }
         ensures memo { OnOk result (IsMemo (judges.setting_of self.now) self.now.claims.sets.now memo.new) }
         ensures count { OnOk result (length starts.new.items ≡ walks.trees_after (length starts.old.items) node) }
-        ensures walk { OnOk result (judges.GoesOn self.now (kept.starts_of starts.old.items) node (kept.starts_of starts.new.items)) }
+        ensures walk { OnOk result (judges.WalksOn self.now (kept.starts_of starts.old.items) node (kept.starts_of starts.new.items)) }
         ensures fault { IfErr result (judges.IsNextFault self.now (kept.starts_of starts.old.items) number node) }
     {
         let at = next_start(starts);

@@ -1,5 +1,5 @@
 //! Trees that are judged while their text is read.
-ghost use Rattle.std.specs.Prelude.{◌≡◌, ◌≤◌, ◌<◌, ◌++◌, [], true, false, OnOk};
+ghost use Rattle.std.specs.Prelude.{◌≡◌, ◌≤◌, ◌<◌, true, false};
 ghost use Rattle.certificate.specs.Texts as texts;
 ghost use Rattle.gap_checker.specs.inner.Walks as walks;
 
@@ -23,21 +23,6 @@ pub(crate) struct TreeReader {
     pub is_done: bool,
     pub partial: Bytes,
     pub starts: Vec<Fix>,
-}
-
-/// Puts bytes at the end.
-fn push_bytes(out: &mut Bytes, bytes: &[u8]) -> Result<(), NoMemory>
-    ensures { OnOk result (out.new ≡ out.old ++ bytes.now) }
-{
-    out.items.extend_from_slice(bytes)?;
-    Ok(())
-}
-
-/// Takes all bytes away.
-fn clear(out: &mut Bytes)
-    ensures { out.new ≡ [] }
-{
-    out.items.clear();
 }
 
 /// Whether a line is the one behind the nodes.
@@ -176,7 +161,7 @@ impl TreeReader {
         if self.partial.items.len() + bytes.len() > LONGEST_LINE {
             return Ok(false);
         }
-        push_bytes(&mut self.partial, bytes)?;
+        self.partial.push_slice(bytes)?;
         Ok(true)
     }
 
@@ -186,7 +171,7 @@ impl TreeReader {
         ensures { self.new ≡ record self.old { read = self.old.read + 1; partial = [] } }
     {
         self.read += 1;
-        clear(&mut self.partial);
+        self.partial.clear();
     }
 
     /// Counts the open line, which is the one behind the nodes.
@@ -194,7 +179,7 @@ impl TreeReader {
         ensures { self.new ≡ record self.old { is_done = true; partial = [] } }
     {
         self.is_done = true;
-        clear(&mut self.partial);
+        self.partial.clear();
     }
 
     /// Judges the node of the open line, and counts that.

@@ -12,8 +12,8 @@ use Rattle.plan_model.specs.Costs.{rows_in, sort_cost}
 use Rattle.plan_model.specs.Plans.{is_column_of}
 use Rattle.plan_model.specs.Combinations.{Orders, free}
 use Rattle.planner.specs.declared.cell.Cell.{Cell}
-use Rattle.planner.specs.declared.cut.Cut.{Cut}
-use Rattle.planner.specs.declared.cut.Merge.{Merge}
+use Rattle.planner.specs.declared.cuts.Cut.{Cut}
+use Rattle.planner.specs.declared.cuts.Merge.{Merge}
 use Rattle.planner.specs.declared.ways.Ways.{Ways}
 use Rattle.planner.specs.Fronts.{head_at, listed}
 use Rattle.planner.specs.Cells.{blank, any_at, cell_at, cost_at}

@@ -35,7 +35,7 @@ use Rattle.planner.specs.Cells.{cost_at}
 use Rattle.planner.specs.Rows.{order_of, sets_of}
 use Rattle.planner.specs.inner.Built.{IsPlanFor}
 use Rattle.planner.specs.inner.Shapes.{final_cost, is_nil}
-use Rattle.planner.proofs.Exists.{joined, rows_most}
+use Rattle.plan_model.proofs.Exists.{joined, rows_most}
 use Rattle.planner.proofs.Finding.{full_in}
 use Rattle.planner.proofs.Fronting.{all_asked, nothing_asked}
 use Rattle.planner.proofs.Lower.{IsLow}
@@ -61,19 +61,19 @@ pub record WholeFor (task : Task) (orders : List (List Order)) (t : Template) : 
   pub reads : (slot : ℕ) → slot < task.slots → choice whole.body slot ≡ place_at t slot
   pub past : (slot : ℕ) → task.slots ≤ slot → place_at t slot ≡ 0
 
-pub end-sorts : (order : Order) (b : Bool) → is_nil order ≡ b → IsTrue (not b) → order ≢ []
+end-sorts : (order : Order) (b : Bool) → is_nil order ≡ b → IsTrue (not b) → order ≢ []
 end-sorts order true e h = absurd (false≢true h)
 end-sorts order false e h = nil_false order e
 
-pub end-ordered : (order o : Order) (b : Bool) → is_nil order ≡ b → BeginsWith (cond (not b) order o) order
+end-ordered : (order o : Order) (b : Bool) → is_nil order ≡ b → BeginsWith (cond (not b) order o) order
 end-ordered order o true e = subst (BeginsWith o) (sym (nil_true order e)) (begins_nil o)
 end-ordered order o false e = begins_self order
 
-pub plain-sorts : (g : Option Order) → body_sorts (plain_step g) ≡ false
+plain-sorts : (g : Option Order) → body_sorts (plain_step g) ≡ false
 plain-sorts None = refl
 plain-sorts (Some group) = refl
 
-pub plain-fits : (g : Option Order) (o : Order) → FitsGroup g (plain_step g) o
+plain-fits : (g : Option Order) (o : Order) → FitsGroup g (plain_step g) o
 plain-fits None o = tt
 plain-fits (Some group) o = tt
 

@@ -1,27 +1,21 @@
 -- What a cache is made of.
-use Rattle.std.proofs.Common.{Global, ◌≡◌, inl, inr, ℕ, suc, ◌<◌, ◌≤◌, not, List, [], length, get_or, refl, sym, ap, ◌∙◌, subst, arith}
+use Rattle.std.proofs.Common.{◌≡◌, inl, inr, ℕ, suc, ◌<◌, ◌≤◌, List, [], length, get_or, sym, ap, ◌∙◌, subst, arith}
 use Rattle.std.proofs.lemmas.Bool.{cases_lt}
 use Rattle.std.proofs.lemmas.List.{get_or_past, nil_from_length}
 use Rattle.adv_base.specs.Items.{Order}
-use Rattle.adv_base.specs.Offers.{OfferTable}
-use Rattle.adv_base.specs.OfferTables.{HasOffers, OfferLimits, OfferTableLimits}
+use Rattle.adv_base.specs.OfferTables.{OfferLimits}
 use Rattle.adv_base.proofs.Begins.{begins_length}
-use Rattle.plan_model.specs.declared.plan.Whole.{Whole}
 use Rattle.plan_model.specs.declared.task.Task.{Task}
 use Rattle.plan_model.specs.declared.template.Template.{Template}
-use Rattle.plan_model.specs.Plans.{IsValid, IsWhole, delivers, group_order}
 use Rattle.plan_model.specs.Orders.{interesting_orders}
 use Rattle.plan_model.specs.Combinations.{IsCombination, free, AreEnough, IsIn}
 use Rattle.plan_model.proofs.OrderLaws.{IsOfSlot, interesting_orders-of-slot}
 use Rattle.plan_model.proofs.Decomposing.{free-limits}
+use Rattle.plan_model.proofs.Exists.{has-plan}
 use Rattle.plan_model.proofs.Listing.{numbers-combination}
-use Rattle.planner.specs.inner.Shapes.{is_nil}
-use Rattle.planner.proofs.Exists.{joined}
 use Rattle.interesting_orders.proofs.OrderLemmas.{interesting_orders-first, interesting_orders-few}
 use Rattle.inum_cache.specs.Numbering.{size_in, order_in, AreOrders}
 use Rattle.inum_cache.specs.Caches.{no_orders}
-use Rattle.inum_cache.specs.inner.Tops.{plain_step}
-use Rattle.inum_cache.proofs.Enough.{end-ordered, end-sorts, plain-fits, plain-sorts}
 use Rattle.inum_cache.proofs.Kept.{order-same, size-same}
 
 -- ## What combinations choose from
@@ -51,20 +45,6 @@ choices-own task orders are slot place =
 
 -- ## The combination of no orders
 
--- some whole plan is valid
-some-whole : (alloc : Global) (task : Task) (table : OfferTable) → OfferTableLimits table → HasOffers task.slots table → (whole : Whole) × IsWhole task table whole
-some-whole alloc task table limits has =
-    let j = joined alloc task table limits has in (
-      record { body = j.plan; group = plain_step task.group; final_sort = not (is_nil task.order) },
-      record {
-        body_valid = subst (λ b. IsValid b task table j.plan) (sym (plain-sorts task.group)) j.valid;
-        covers_all = j.covers_all;
-        group_fits = plain-fits task.group (delivers table j.plan);
-        sorts_by_something = end-sorts task.order (is_nil task.order) refl;
-        ordered = end-ordered task.order (group_order task.group (plain_step task.group) (delivers table j.plan)) (is_nil task.order) refl;
-      },
-    )
-
 none-combination : (task : Task) → IsCombination task no_orders
 none-combination task slot =
     let first = interesting_orders-first task in
@@ -73,11 +53,11 @@ none-combination task slot =
     subst (IsCombination task) is (numbers-combination task (λ s. 0) some) slot
 
 -- some template asks for nothing
-pub plain-is-in : (alloc : Global) (task : Task) (templates : List Template) → AreEnough task (IsIn task templates) → (internal : ℕ) × IsIn task templates no_orders internal
-plain-is-in alloc task templates enough =
+pub plain-is-in : (task : Task) (templates : List Template) → AreEnough task (IsIn task templates) → (internal : ℕ) × IsIn task templates no_orders internal
+plain-is-in task templates enough =
     let comb = none-combination task in
-    let some = some-whole alloc task (free no_orders) (free-limits task no_orders comb) (λ slot below. omega arith) in
-    let c = enough.covers no_orders some.0 comb some.1 in (
+    let some = has-plan task (free no_orders) (free-limits task no_orders comb) (λ slot below. omega arith) in
+    let c = enough.covers no_orders some.whole comb some.valid in (
       c.internal,
       record {
         number = c.template.number;

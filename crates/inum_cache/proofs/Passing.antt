@@ -18,8 +18,8 @@ use Rattle.plan_model.proofs.CostBound.{valid-most}
 use Rattle.plan_model.proofs.Exchanging.{single-is}
 use Rattle.plan_model.proofs.SetLaws.{has-left, has-right, has-apart, has-right-where, has-single}
 use Rattle.planner.specs.declared.cell.Cell.{Cell}
-use Rattle.planner.specs.declared.cut.Cut.{Cut}
-use Rattle.planner.specs.declared.cut.Merge.{Merge}
+use Rattle.planner.specs.declared.cuts.Cut.{Cut}
+use Rattle.planner.specs.declared.cuts.Merge.{Merge}
 use Rattle.planner.specs.declared.front.Front.TheVariants.{Any, Listed}
 use Rattle.planner.specs.declared.ways.Ways.{Ways}
 use Rattle.planner.specs.Fronts.{first_item, front_order, listed}
@@ -144,9 +144,6 @@ module _ (alloc : Global) (ways : Ways) (orders : List (List Order)) (rows : ℕ
       }
 
   module _ (k : ℕ) (inside : k < length (cuts_of ways set)) where
-    cut : Cut
-    cut = cut_at (cuts_of ways set) k
-
     left-for : (g i : ℕ) → i < length (cell_in (rows (cut_at (cuts_of ways set) k).left) g) → IsFor ways orders (cut_at (cuts_of ways set) k).left g (template_at (cell_in (rows (cut_at (cuts_of ways set) k).left) g) i)
     left-for g i there =
         done (cut_at (cuts_of ways set) k).left (facts ways set k within inside).parts.less g i no_template there

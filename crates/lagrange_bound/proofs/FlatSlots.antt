@@ -15,7 +15,7 @@ use Rattle.lagrange_bound.specs.ListedPrices.{slots_of}
 use Rattle.lagrange_bound.specs.CandidateUses.{weighted_rents}
 use Rattle.lagrange_bound.specs.Rented.{grants_before}
 use Rattle.lagrange_bound.specs.declared.uses.WeightedGrant.{WeightedGrant}
-use Rattle.lagrange_bound.specs.inner.Listed.{AreOwners, owned_rents}
+use Rattle.lagrange_bound.specs.inner.CostsByLists.{AreOwners, owned_rents}
 
 -- ## Two lists, one after the other
 

@@ -17,11 +17,11 @@ use Rattle.bip_model.specs.Values.{lesser, price_of}
 use Rattle.bip_model.specs.Words.{word}
 use Rattle.bip_model.proofs.Pricing.{price_of-price}
 use Rattle.bip_model.proofs.Least.{lesser-none}
-use Rattle.lagrange_bound.specs.declared.prices.CheaperPrice.{CheaperPrice}
+use Rattle.lagrange_bound.specs.declared.price_lists.CheaperPrice.{CheaperPrice}
 use Rattle.lagrange_bound.specs.Rented.{asked, least_asked, grants_before}
 use Rattle.lagrange_bound.specs.ListedPrices.{orders_before}
-use Rattle.lagrange_bound.specs.inner.Listed.{lowered, least_at}
-use Rattle.lagrange_bound.specs.inner.Lists.{if_cheaper, grant_prices, slot_prices}
+use Rattle.lagrange_bound.specs.inner.CostsByLists.{lowered, least_at}
+use Rattle.lagrange_bound.specs.inner.SlotBySlot.{if_cheaper, grant_prices, slot_prices}
 use Rattle.lagrange_bound.proofs.CheaperPrices.{lesser-below, raised-idle}
 use Rattle.lagrange_bound.proofs.RentedPrices.{IsPrice, AreRents, lesser-price, raised-price, asked-price, word-lesser}
 

@@ -15,9 +15,9 @@ use Rattle.bip_model.proofs.Pricing.{get-some}
 use Rattle.bip_model.proofs.Lists.{front-of, back-of}
 use Rattle.lagrange_bound.specs.ListedPrices.{slots_of, orders_before, ArePrices}
 use Rattle.lagrange_bound.specs.Rented.{rented_price, grants_before, rented_cost, plan_costs}
-use Rattle.lagrange_bound.specs.declared.prices.CheaperPrice.{CheaperPrice}
-use Rattle.lagrange_bound.specs.declared.prices.PriceLists.{PriceLists}
-use Rattle.lagrange_bound.specs.inner.Listed.{lowered, least_at, tails, AreLeast, HavePlaces, listed_cost, listed_costs}
+use Rattle.lagrange_bound.specs.declared.price_lists.CheaperPrice.{CheaperPrice}
+use Rattle.lagrange_bound.specs.declared.price_lists.PriceLists.{PriceLists}
+use Rattle.lagrange_bound.specs.inner.CostsByLists.{lowered, least_at, tails, AreLeast, HavePlaces, listed_cost, listed_costs}
 use Rattle.lagrange_bound.specs.inner.Rows.{AreRows}
 use Rattle.lagrange_bound.proofs.FlatSlots.{all-grants, sum-left, sum-right}
 use Rattle.lagrange_bound.proofs.RentedPrices.{AreRents, drop-rents, row_least-part}

@@ -15,12 +15,12 @@ use Rattle.bip_model.specs.declared.part.Part.{Part}
 use Rattle.bip_model.specs.Limits.Grants as limits
 use Rattle.bip_model.specs.Values.{price_of}
 use Rattle.bip_model.specs.Words.{word}
-use Rattle.lagrange_bound.specs.declared.prices.CheaperPrice.{CheaperPrice}
-use Rattle.lagrange_bound.specs.declared.prices.PriceLists.{PriceLists}
+use Rattle.lagrange_bound.specs.declared.price_lists.CheaperPrice.{CheaperPrice}
+use Rattle.lagrange_bound.specs.declared.price_lists.PriceLists.{PriceLists}
 use Rattle.lagrange_bound.specs.Rented.{rented_price, grants_before}
 use Rattle.lagrange_bound.specs.ListedPrices.{ArePrices, IsWithin, orders_before, slots_of}
-use Rattle.lagrange_bound.specs.inner.Listed.{least_at}
-use Rattle.lagrange_bound.specs.inner.Lists.{Lists, lists_of, no_lists, if_cheaper, grant_prices, slot_prices, owner, with_slot, with_part}
+use Rattle.lagrange_bound.specs.inner.CostsByLists.{least_at}
+use Rattle.lagrange_bound.specs.inner.SlotBySlot.{Lists, lists_of, no_lists, if_cheaper, grant_prices, slot_prices, owner, with_slot, with_part}
 use Rattle.lagrange_bound.proofs.CheaperPrices.{lesser-self}
 use Rattle.lagrange_bound.proofs.LeastPrices.{AreOwned, slots_prices, slot-at, slots-at}
 use Rattle.lagrange_bound.proofs.RentedPrices.{AreRents, base-price}

@@ -17,7 +17,7 @@ use Rattle.bip_model.specs.Candidates.{has_cheaper}
 use Rattle.bip_model.specs.Values.{MOST_PLAN, part_grants}
 use Rattle.lagrange_bound.specs.Rented.{rented_cost, plan_costs, weighted_costs}
 use Rattle.lagrange_bound.specs.inner.Marks.{Keeps, IsNoted, AreNoted, AreMarked}
-use Rattle.lagrange_bound.specs.inner.Repricing.{IsPriced}
+use Rattle.lagrange_bound.specs.inner.CostsAnew.{IsPriced}
 use Rattle.lagrange_bound.proofs.CarriedCosts.{IsSettled, SlotsSettled, length-plan_costs, all-more, rented_cost-settled}
 
 -- ## Flags

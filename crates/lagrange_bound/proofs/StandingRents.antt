@@ -25,11 +25,12 @@ use Rattle.adv_base.proofs.Begins.{begins_nil}
 use Rattle.adv_base.proofs.OfferBounds.{charged-limits, tables-charged}
 use Rattle.plan_model.specs.declared.task.Task.{Task}
 use Rattle.plan_model.specs.declared.template.Template.{Template}
-use Rattle.plan_model.specs.Combinations.{IsLeastPrice, CachedBy, needed, IsIn}
+use Rattle.plan_model.specs.Combinations.{IsLeastPrice, CachedBy, needed, IsIn, SomeAsksNothing}
 use Rattle.plan_model.specs.Exchange.{sum_below}
 use Rattle.plan_model.specs.Least.{Least}
 use Rattle.plan_model.specs.Orders.{interesting_orders}
 use Rattle.plan_model.specs.Totals.{no_candidates}
+use Rattle.plan_model.proofs.AsksNothing.{some-asks-nothing}
 use Rattle.bip_model.specs.declared.grant.Grant.{Grant}
 use Rattle.bip_model.specs.declared.slot_part.SlotPart.{SlotPart}
 use Rattle.bip_model.specs.declared.part.Part.{Part}
@@ -37,7 +38,7 @@ use Rattle.bip_model.specs.Limits.Parts.{TemplateLimits}
 use Rattle.bip_model.specs.Values.{lesser, plus, price_of, need}
 use Rattle.bip_model.specs.StandsFor.{given, least_given, candidates_on, AreEach, IsGrant, IsSlotPart, Blocked, IsPart}
 use Rattle.bip_model.proofs.Least.{IsSome, least-made, least-most, least-filter, least-map}
-use Rattle.bip_model.proofs.Standing.{chosen-on, gives-given, given-least, least-given, offers-on, slots-same, none-on, first-order, plus-made}
+use Rattle.bip_model.proofs.Standing.{chosen-on, gives-given, given-least, least-given, offers-on, slots-same, none-on, plus-made}
 use Rattle.bip_model.proofs.Lists.{map-same, append-none, All-some}
 use Rattle.lagrange_bound.specs.Rented.{asked, least_asked, rented_price, grants_before, needed_price, cost_below, template_cost, least_cost, rented_cost}
 use Rattle.lagrange_bound.proofs.RentPlaces.{RentsAre, SlotsAre}
@@ -270,18 +271,19 @@ part-cached rent setting blocked part config rents is rented cost e =
           }
     ]
 
--- there is some plan, and so a least cost
+-- some template asks for nothing, and so there is a least cost
 part-costs : (rent : ℕ → ℕ → ℕ) (setting : TheSetting) (blocked : Blocked) (part : Part) (config : Config) (rents : List ℕ) → NamesBlock setting.cat blocked.block → (is : IsPart setting blocked part) → SlotsAre rent 0 part.slots rents →
     IsSome (λ n. 0 ≤ n) (least_cost config part rents)
 unfolding price_or
 part-costs rent setting blocked part config rents named is rented =
     let task : Task = is.task in
-    let template : Template = is.some_plan.template in
+    let plain : SomeAsksNothing task part.templates = some-asks-nothing task part.templates is.decompose in
+    let template : Template = plain.template in
     let table : OfferTable = charged_offers rent setting.cat blocked.block setting.shapes config in
     let each : (s : ℕ) → s < task.slots → needed_price config part.slots rents template s ≡ Some (price_or config part.slots rents template s) = λ s below.
     let some : 0 < length (table s) = (tables-charged rent setting.cat blocked.block named setting.shapes config).some s (omega (arith, below, is.task_is.slots_are)) in
-    let order : needed task template s ≡ [] = ap (λ (o : ℕ). slice_index_or (interesting_orders task s) o []) (is.some_plan.asks_nothing s (omega (arith, below, slots-same setting blocked part is))) ∙ first-order task s in
-    let given_is = needed-given rent setting blocked part config rents is rented is.some_plan.number template is.some_plan.found s below in
+    let order : needed task template s ≡ [] = plain.asks_nothing s below in
+    let given_is = needed-given rent setting blocked part config rents is rented plain.number template plain.found s below in
     elim (slice_get_cases (table s) 0).1 [
       | inl offer ↦
           let priced = least-most (given []) None (table s) 0 offer.0 offer.0.1 offer.2 (gives-given [] offer.0 (begins_nil offer.0.0)) in
@@ -294,7 +296,7 @@ part-costs rent setting blocked part config rents named is rented =
     summed-cost config part.slots rents template (price_or config part.slots rents template) task.slots each in
     let own : template_cost config part.slots rents template ≡ Some (template.internal + sum_below (price_or config part.slots rents template) task.slots) =
     subst (λ n. cost_below config part.slots rents template n ≡ Some (template.internal + sum_below (price_or config part.slots rents template) task.slots)) (sym (slots-same setting blocked part is)) costs in
-    let least = least-most (template_cost config part.slots rents) None part.templates is.some_plan.number template (template.internal + sum_below (price_or config part.slots rents template) task.slots) is.some_plan.found own in
+    let least = least-most (template_cost config part.slots rents) None part.templates plain.number template (template.internal + sum_below (price_or config part.slots rents template) task.slots) plain.found own in
     record { number = least.number; is = least.is; holds = omega arith }
 
 -- The cost of a part with rents is that of a least plan of its block with them.

@@ -8,9 +8,9 @@ use Rattle.bip_model.specs.declared.slot_part.SlotPart.{SlotPart}
 use Rattle.bip_model.specs.declared.part.Part.{Part}
 use Rattle.bip_model.specs.Words.{word}
 use Rattle.lagrange_bound.specs.Rented.{rented_price, grants_before}
-use Rattle.lagrange_bound.specs.inner.Listed.{least_at}
-use Rattle.lagrange_bound.specs.declared.prices.CheaperPrice.{CheaperPrice}
-use Rattle.lagrange_bound.specs.declared.prices.PriceLists.{PriceLists}
+use Rattle.lagrange_bound.specs.inner.CostsByLists.{least_at}
+use Rattle.lagrange_bound.specs.declared.price_lists.CheaperPrice.{CheaperPrice}
+use Rattle.lagrange_bound.specs.declared.price_lists.PriceLists.{PriceLists}
 
 -- the slots of parts, one after the other
 abbrev pub slots_of : List Part → List SlotPart

@@ -1,6 +1,6 @@
 //! The Lagrangian value of a node.
 ghost use Rattle.std.specs.Prelude.{◌≡◌, ◌*◌, ◌<◌, ◌≤◌, ◌^◌, ℕ, suc, All, length, sum_by, slice_index_or};
-ghost use Rattle.adv_base.specs.declared.limits.TheConstants.{MOST_CANDIDATES, MOST_RENT, MOST_ROWS, MOST_STATEMENTS, MOST_WEIGHT};
+ghost use Rattle.adv_base.specs.declared.limits.TheConstants.{MOST_CANDIDATES, MOST_PAGES, MOST_RENT, MOST_STATEMENTS, MOST_WEIGHT};
 ghost use Rattle.bip_model.specs.Values as values;
 ghost use Rattle.bip_model.specs.Views.{AreMultipliers};
 ghost use Rattle.lagrange_bound.specs.Bounds as bounds;
@@ -63,7 +63,7 @@ pub(crate) fn value_of_plans(
     plans: u128,
     rents: &Earned,
 ) -> i128
-    requires budget { budget ≤ MOST_ROWS }
+    requires budget { budget ≤ MOST_PAGES }
     requires multipliers { AreMultipliers programme.now multipliers.now }
     requires plans { plans ≤ MOST_STATEMENTS * (MOST_WEIGHT * values.MOST_PLAN) }
     requires rents { (a : ℕ) → a < MOST_CANDIDATES → slice_index_or rents.now a 0 ≡ bounds.part_rents (suc a) programme.now.parts multipliers.now.lambda }
@@ -79,7 +79,7 @@ pub(crate) fn value_of_plans(
 /// The Lagrangian value of a node, as the programme tells it.
 #[tactic(auto, unfolding(crate::specs::Bounds::lagrangian, bip_model::specs::Values::grant_count))]
 fn value_of(programme: &Programme, budget: u64, fix: &Fix, multipliers: &Multipliers) -> i128
-    requires budget { budget ≤ MOST_ROWS }
+    requires budget { budget ≤ MOST_PAGES }
     requires multipliers { AreMultipliers programme.now multipliers.now }
     ensures { result ≡ bounds.lagrangian programme.now budget fix.now multipliers.now }
 {
@@ -100,7 +100,7 @@ fn value_of(programme: &Programme, budget: u64, fix: &Fix, multipliers: &Multipl
 /// costs less, in thousandths of a page read. It is defined at every node, also where what is in doesn't fit. Of a
 /// programme that stands for a setting it is the setting's Lagrangian value. Takes no memory.
 pub fn bound(programme: &Programme, budget: u64, fix: &Fix, multipliers: &Multipliers) -> i128
-    requires budget { budget ≤ MOST_ROWS }
+    requires budget { budget ≤ MOST_PAGES }
     requires multipliers { AreMultipliers programme.now multipliers.now }
     ensures exact { result ≡ bounds.lagrangian programme.now budget fix.now multipliers.now }
     ensures lagrangian { laws.IsLagrangianInEach programme.now budget fix.now multipliers.now result }

@@ -1,7 +1,7 @@
 //! Bounds in parts: what each plan costs at a node, and what a bound makes of that.
 ghost use Rattle.std.specs.Prelude.{◌≡◌, ◌+◌, ◌*◌, ◌≤◌, if◌then◌else◌, false, not, All, drop, length, sum_by};
 ghost use Rattle.adv_base.specs.Configs.{has_candidate};
-ghost use Rattle.adv_base.specs.declared.limits.TheConstants.{MOST_RENT, MOST_ROWS, MOST_STATEMENTS, MOST_WEIGHT};
+ghost use Rattle.adv_base.specs.declared.limits.TheConstants.{MOST_PAGES, MOST_RENT, MOST_STATEMENTS, MOST_WEIGHT};
 ghost use Rattle.bip_model.specs.Values as values;
 ghost use Rattle.bip_model.specs.Views.{AreMultipliers};
 ghost use Rattle.lagrange_bound.specs.Bounds as bounds;
@@ -11,7 +11,7 @@ use crate::bounds::value_of_plans;
 use crate::candidates::available;
 use crate::earnings::earned_rents;
 use crate::kept::Terms;
-use crate::pricing::rented_cost;
+use crate::plan_costs::rented_cost;
 use adv_base::Config;
 use bip_model::{Fix, Grant, Multipliers, NO_ROWS, Part, Programme, Rows, part_grants};
 
@@ -41,7 +41,7 @@ pub fn terms(
     multipliers: &Multipliers,
     into: &mut Terms,
 )
-    requires budget { budget ≤ MOST_ROWS }
+    requires budget { budget ≤ MOST_PAGES }
     requires multipliers { AreMultipliers programme.now multipliers.now }
     requires one_each { length into.old.least ≡ length programme.now.parts }
     ensures { into.new.least ≡ bounds.costs_at programme.now budget fix.now multipliers.now }
@@ -144,7 +144,7 @@ pub fn carry(
     old: &Terms,
     into: &mut Terms,
 )
-    requires budget { budget ≤ MOST_ROWS }
+    requires budget { budget ≤ MOST_PAGES }
     requires multipliers { AreMultipliers programme.now multipliers.now }
     requires old { old.now.least ≡ bounds.costs_at programme.now budget from.now multipliers.now }
     requires one_each { length into.old.least ≡ length programme.now.parts }
@@ -186,7 +186,7 @@ pub fn total(
     multipliers: &Multipliers,
     at: &Terms,
 ) -> i128
-    requires budget { budget ≤ MOST_ROWS }
+    requires budget { budget ≤ MOST_PAGES }
     requires multipliers { AreMultipliers programme.now multipliers.now }
     requires terms { at.now.least ≡ bounds.costs_at programme.now budget fix.now multipliers.now }
     ensures { result ≡ bounds.lagrangian programme.now budget fix.now multipliers.now }

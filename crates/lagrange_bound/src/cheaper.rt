@@ -8,7 +8,7 @@ ghost use Rattle.bip_model.specs.declared.part.Part as the_part;
 ghost use Rattle.lagrange_bound.specs.Ledgers as ledgers;
 ghost use Rattle.lagrange_bound.specs.inner.Marks as marks;
 
-use crate::prices::PriceLists;
+use crate::price_lists::PriceLists;
 use crate::uses::{WeightedGrant, all_uses};
 use adv_base::limits::{MOST_CANDIDATES, MOST_STATEMENTS};
 use adv_base::{List, NoMemory};

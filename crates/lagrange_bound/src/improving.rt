@@ -1,6 +1,6 @@
 //! Better multipliers.
 ghost use Rattle.std.specs.Prelude.{◌≡◌, ◌≤ℤ◌, ◌≤◌, ◌<◌, ℕ, min};
-ghost use Rattle.adv_base.specs.declared.limits.TheConstants.{MOST_ROWS};
+ghost use Rattle.adv_base.specs.declared.limits.TheConstants.{MOST_PAGES};
 ghost use Rattle.bip_model.specs.Views.{AreMultipliers};
 ghost use Rattle.lagrange_bound.specs.Bounds as bounds;
 ghost use Rattle.lagrange_bound.specs.Laws as laws;
@@ -33,7 +33,7 @@ fn try_rents(
     mult: &mut Multipliers,
     spare: &mut Multipliers,
 ) -> i128
-    requires budget { budget ≤ MOST_ROWS }
+    requires budget { budget ≤ MOST_PAGES }
     requires multipliers { AreMultipliers programme.now mult.old }
     requires room { AreMultipliers programme.now spare.old }
     requires best { best ≡ bounds.lagrangian programme.now budget fix.now mult.old }
@@ -63,7 +63,7 @@ pub fn improve(
     spare: &mut Multipliers,
     rounds: u32,
 )
-    requires budget { budget ≤ MOST_ROWS }
+    requires budget { budget ≤ MOST_PAGES }
     requires multipliers { AreMultipliers programme.now mult.old }
     requires room { AreMultipliers programme.now spare.old }
     ensures within { AreMultipliers programme.now mult.new }

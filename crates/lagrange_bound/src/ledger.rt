@@ -1,6 +1,6 @@
 //! Bounds under one set of multipliers, carried from node to node.
 ghost use Rattle.std.specs.Prelude.{◌≡◌, ◌*◌, ◌<◌, ◌≤◌, IfOk};
-ghost use Rattle.adv_base.specs.declared.limits.TheConstants.{MOST_CANDIDATES, MOST_ROWS};
+ghost use Rattle.adv_base.specs.declared.limits.TheConstants.{MOST_CANDIDATES, MOST_PAGES};
 ghost use Rattle.adv_base.specs.Nodes as nodes;
 ghost use Rattle.bip_model.specs.Views as views;
 ghost use Rattle.bip_model.specs.Views.{AreMultipliers};
@@ -10,12 +10,12 @@ ghost use Rattle.lagrange_bound.specs.Ledgers as ledgers;
 use crate::bounds::value_of_plans;
 use crate::candidates::available;
 use crate::carrying::weighted_costs;
+use crate::changed_parts::mark_changed;
 use crate::cheaper::CheaperParts;
+use crate::costs_anew::price_marked;
+use crate::costs_by_lists::price_all;
 use crate::earnings::Earned;
-use crate::listed::price_all;
 use crate::marked::Marked;
-use crate::marking::mark_changed;
-use crate::repricing::price_marked;
 use crate::uses::used_rents;
 use adv_base::limits::MOST_CANDIDATES;
 use adv_base::{Config, NoMemory};
@@ -111,7 +111,7 @@ fn value_at(
     multipliers: &Multipliers,
     ledger: &Ledger,
 ) -> i128
-    requires budget { budget ≤ MOST_ROWS }
+    requires budget { budget ≤ MOST_PAGES }
     requires multipliers { AreMultipliers programme.now multipliers.now }
     requires ledger { ledgers.IsLedger programme.now multipliers.now ledger.now }
     requires config { ledger.now.config ≡ nodes.available_in (views.space_in programme.now budget) (views.node_of fix.now) }
@@ -139,7 +139,7 @@ pub fn bound_by(
     rows: &mut PriceRows,
 ) -> i128
     requires cheaper { ledgers.AreCheaperParts programme.now cheaper.now }
-    requires budget { budget ≤ MOST_ROWS }
+    requires budget { budget ≤ MOST_PAGES }
     requires multipliers { AreMultipliers programme.now multipliers.now }
     requires ledger { ledgers.IsLedger programme.now multipliers.now ledger.old }
     ensures value { result ≡ bounds.lagrangian programme.now budget fix.now multipliers.now }
@@ -198,7 +198,7 @@ pub fn open_ledger(
     rows: &mut PriceRows,
 ) -> i128
     requires cheaper { ledgers.AreCheaperParts programme.now cheaper.now }
-    requires budget { budget ≤ MOST_ROWS }
+    requires budget { budget ≤ MOST_PAGES }
     requires multipliers { AreMultipliers programme.now multipliers.now }
     requires room { ledgers.HasRoom programme.now ledger.old }
     requires places { ledgers.HasPlaces cheaper.now rows.old }

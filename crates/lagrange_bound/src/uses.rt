@@ -5,7 +5,7 @@ ghost use Rattle.bip_model.specs.Values as values;
 ghost use Rattle.lagrange_bound.specs.CandidateUses as candidate_uses;
 ghost use Rattle.lagrange_bound.specs.ListedPrices as prices_spec;
 ghost use Rattle.lagrange_bound.specs.inner.Limits as limits;
-ghost use Rattle.lagrange_bound.specs.inner.Listed as listed;
+ghost use Rattle.lagrange_bound.specs.inner.CostsByLists as listed;
 
 use crate::earnings::Earned;
 use adv_base::limits::MOST_CANDIDATES;

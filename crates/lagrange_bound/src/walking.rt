@@ -9,7 +9,7 @@ ghost use Rattle.lagrange_bound.specs.inner.Limits as limits;
 ghost use Rattle.lagrange_bound.specs.inner.Rows as rows_spec;
 
 use crate::earnings::{Earned, earn, earn_grants};
-use crate::pricing::{Priced, lower_one, lower_two, write_from};
+use crate::plan_costs::{Priced, lower_one, lower_two, write_from};
 use adv_base::Config;
 use bip_model::{Part, Row, Rows, SlotPart, cost_by_rows, word};
 

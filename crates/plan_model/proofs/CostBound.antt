@@ -16,7 +16,7 @@ use Rattle.plan_model.specs.declared.task.Task.{Task}
 use Rattle.adv_base.specs.OfferTables.{OfferTableLimits}
 use Rattle.plan_model.specs.Plans.{covers, IsValid, IsWhole, body_sorts}
 use Rattle.plan_model.specs.Costs.{rows_in, sort_cost, plan_cost, group_cost, final_rows, whole_cost}
-use Rattle.plan_model.specs.inner.Judging.{plan_judged, IsKept}
+use Rattle.plan_model.specs.inner.Judging.{plan_judged, JudgedLimits}
 use Rattle.plan_model.proofs.Bounds.{valid-covers, rows_in-most, price_at-most, sort_cost-most, merge_cost-most, hash_cost-most}
 use Rattle.plan_model.proofs.SetLaws.{bit-sum}
 
@@ -121,8 +121,8 @@ valid-most sorts task table plan limits v =
     omega (arith, plan_cost-most sorts task table plan limits v, leaves-most sorts task table plan v)
 
 -- what is found of a valid plan keeps its limits
-pub valid-kept : (sorts : Bool) (task : Task) (table : OfferTable) (plan : Plan) → OfferTableLimits table → IsValid sorts task table plan → IsKept task (plan_judged task table plan)
-valid-kept sorts task table plan limits v =
+pub judged-limits : (sorts : Bool) (task : Task) (table : OfferTable) (plan : Plan) → OfferTableLimits table → IsValid sorts task table plan → JudgedLimits task (plan_judged task table plan)
+judged-limits sorts task table plan limits v =
     record { within = valid-covers sorts task table plan v; most = omega (arith, valid-most sorts task table plan limits v) }
 
 -- a valid whole plan costs less than 10^21

@@ -49,7 +49,7 @@ free-cost task needs whole v =
     let none : sum_below (leaf_price (free needs) whole.body) task.slots ≡ 0 = sum_below-none (leaf_price (free needs) whole.body) task.slots (λ slot below. free-price needs slot (choice whole.body slot)) in
     omega (arith, split, none)
 
-free-order : (needs : Orders) (slot offer : ℕ) → offer < 1 → order_at (free needs) slot offer ≡ needs slot
+pub free-order : (needs : Orders) (slot offer : ℕ) → offer < 1 → order_at (free needs) slot offer ≡ needs slot
 free-order needs slot zero within = refl
 free-order needs slot (suc offer) within = absurd (omega arith)
 

@@ -182,9 +182,6 @@ leaves-exchange sorts task old new chosen plan limits v h =
 
 -- ## Whole plans
 
-wanted-none : (task : Task) → task.group ≡ None → task.order ≡ wanted_list task.group task.order
-wanted-none task e = rw e refl
-
 group-exchange : (task : Task) (group : Option Order) (step : GroupStep) (o r : Order) → wanted_list task.group task.order ≡ wanted_list group task.order → ((order : Order) → IsFront task order → BeginsWith o order → BeginsWith r order) → FitsGroup group step o → FitsGroup group step r
 group-exchange task None Nothing o r same serves fits = fits
 group-exchange task None Sorted o r same serves fits = fits

@@ -1,9 +1,11 @@
 pub mod SetLaws
 pub mod OrderLaws
 pub mod Bounds
+pub mod Exists
 pub mod CostBound
 pub mod Exchanging
 pub mod Decomposing
+pub mod AsksNothing
 pub mod Caching
 pub mod Comparing
 pub mod Unique

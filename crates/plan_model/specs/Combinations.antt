@@ -146,3 +146,14 @@ EachDecompose = (task : Task) (templates : List Template) → AreEach task templ
 -- One for each combination that is kept does so too.
 abbrev pub KeptListDecompose : Type 0
 KeptListDecompose = (task : Task) (templates : List Template) → AreKept task templates → Decompose task templates
+
+-- one of the templates asks none of the task's slots for an order
+pub record SomeAsksNothing (task : Task) (templates : List Template) : Type 0 where
+  pub number : ℕ
+  pub template : Template
+  pub found : slice_get templates number ≡ Some template
+  pub asks_nothing : (slot : ℕ) → slot < task.slots → needed task template slot ≡ []
+
+-- One of the templates that decompose a task does, so that they give a cost for each table in which each slot has an offer.
+abbrev pub DecomposingAskNothing : Type 0
+DecomposingAskNothing = (task : Task) (templates : List Template) → Decompose task templates → SomeAsksNothing task templates

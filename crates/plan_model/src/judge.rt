@@ -33,7 +33,7 @@ fn judge_leaf<O: Offers>(task: &Task, offers: &O, slot: u8, offer: u32) -> Optio
 }
 
 fn judge_sort(task: &Task, order: &[Item], input: Judged) -> Option<Judged>
-    requires { judging.IsKept task.now input }
+    requires { judging.JudgedLimits task.now input }
     ensures { SomeIff result (All (λ item. plans.is_column_of input.covers item ≡ true) order.now) (judging.sort_judged task.now input) }
 {
     if !order.iter().all(|item| is_column_of(input.covers, item)) {
@@ -74,8 +74,8 @@ fn judge_merge(
     left_order: &[Item],
     right_order: &[Item],
 ) -> Option<Judged>
-    requires left { judging.IsKept task.now left }
-    requires right { judging.IsKept task.now right }
+    requires left { judging.JudgedLimits task.now left }
+    requires right { judging.JudgedLimits task.now right }
     ensures { SomeIff result ((bit_and left.covers right.covers ≡ 0) × plans.Merges task.now number left.covers right.covers left_order.now right_order.now) (judging.merge_judged task.now left right) }
 {
     if left.covers & right.covers != 0 {
@@ -100,8 +100,8 @@ fn judge_merge(
 }
 
 fn judge_hash(task: &Task, left: Judged, right: Judged) -> Option<Judged>
-    requires left { judging.IsKept task.now left }
-    requires right { judging.IsKept task.now right }
+    requires left { judging.JudgedLimits task.now left }
+    requires right { judging.JudgedLimits task.now right }
     ensures { SomeIff result ((bit_and left.covers right.covers ≡ 0) × (list_any (plans.crosses left.covers right.covers) task.now.edges ≡ true)) (judging.hash_judged task.now left right) }
 {
     if left.covers & right.covers != 0 {

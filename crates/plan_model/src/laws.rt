@@ -1,7 +1,8 @@
 //! Laws of plans and their costs, each proved of all tasks and tables of offers. They are what an index advisor stands on:
 //! System R's interesting orders, INUM's plans with exchanged leaves, and the cost that a cache of such plans gives.
-ghost use Rattle.plan_model.specs.Combinations.{EnoughDecompose, EachDecompose, KeptListDecompose, CacheDecomposes, KeptDecompose};
+ghost use Rattle.plan_model.specs.Combinations.{EnoughDecompose, EachDecompose, KeptListDecompose, CacheDecomposes, KeptDecompose, DecomposingAskNothing};
 ghost use Rattle.plan_model.specs.Comparisons.{LeastIsOne, LeastNeverRises, AddedNeverRaises, RaisedLiesBetween, BestIsEnough};
+ghost use Rattle.plan_model.specs.Least.{PlansExist};
 ghost use Rattle.plan_model.specs.Lagrangian.{UnrentedIsPlain, RentsBound, WeakDuality};
 ghost use Rattle.plan_model.specs.Totals.{TotalStaysBelow};
 ghost use Rattle.plan_model.specs.Uniqueness.{TaskIsOne, BlockCostIsOne, CostIsOne, TotalIsOne, LagrangianIsOne};
@@ -27,6 +28,13 @@ pub fn templates_decompose()
     ensures enough { EnoughDecompose }
     ensures each { EachDecompose }
     ensures kept { KeptListDecompose }
+{}
+
+/// Each task has a plan wherever each of its slots has an offer: hash joins of one slot after the other. So one of the
+/// templates that decompose it asks for no order.
+pub fn plans_exist()
+    ensures plan { PlansExist }
+    ensures template { DecomposingAskNothing }
 {}
 
 /// The cached cost, over a least plan for each combination of interesting orders, is the cost of a least plan; so is the

@@ -42,8 +42,8 @@ pub use edge::TaskEdge;
 pub use labels::Labels;
 pub use laws::{
     best_is_enough, cache_decomposes, cost_splits, costs_are_one, least_is_one, least_never_rises,
-    leaves_exchange, raised_lies_between, rents_bound, templates_decompose, total_stays_below,
-    weak_duality,
+    leaves_exchange, plans_exist, raised_lies_between, rents_bound, templates_decompose,
+    total_stays_below, weak_duality,
 };
 pub use lines::plan_text;
 pub use offers::Offers;

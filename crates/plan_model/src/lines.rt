@@ -4,7 +4,7 @@ ghost use Rattle.std.specs.Result.{OnOk};
 ghost use Rattle.adv_base.specs.OfferTables.{OfferTableLimits};
 ghost use Rattle.plan_model.specs.Plans.{covers, IsValid, IsWhole};
 ghost use Rattle.plan_model.specs.Costs as costs;
-ghost use Rattle.plan_model.specs.inner.Judging.{plan_judged, IsKept};
+ghost use Rattle.plan_model.specs.inner.Judging.{plan_judged, JudgedLimits};
 ghost use Rattle.plan_model.specs.PlanTexts.{line, items_words, merge_words, plan_words, plan_lines, group_lines, group_depth, grouped_lines, whole_lines};
 
 use crate::judge::{Judged, judge};
@@ -23,7 +23,7 @@ fn judged<O: Offers>(task: &Task, offers: &O, plan: &Plan, sorts: bool) -> Judge
     requires limits { OfferTableLimits (O.table offers.now) }
     requires valid { IsValid sorts task.now (O.table offers.now) plan.now }
     ensures exact { result ≡ plan_judged task.now (O.table offers.now) plan.now }
-    ensures kept { IsKept task.now result }
+    ensures limits { JudgedLimits task.now result }
 {
     match judge(task, offers, plan, sorts) {
         Some(judged) => judged,

@@ -8,8 +8,8 @@ use Rattle.adv_base.specs.OfferTables.{price_at, order_at}
 use Rattle.planner.specs.declared.cell.Cell.{Cell}
 use Rattle.planner.specs.declared.cell.Choice.{Choice}
 use Rattle.planner.specs.declared.cell.Choice.TheVariants.{Read, MergeOf, HashOf}
-use Rattle.planner.specs.declared.cut.Cut.{Cut}
-use Rattle.planner.specs.declared.cut.Merge.{Merge}
+use Rattle.planner.specs.declared.cuts.Cut.{Cut}
+use Rattle.planner.specs.declared.cuts.Merge.{Merge}
 use Rattle.planner.specs.declared.ways.Ways.{Ways}
 use Rattle.planner.specs.Fronts.{begins_test, listed}
 use Rattle.planner.specs.Cuts.{cut_at, merge_at}

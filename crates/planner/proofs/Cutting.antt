@@ -6,8 +6,8 @@ use Rattle.std.proofs.lemmas.Nat.{and_comm}
 use Rattle.std.proofs.lemmas.List.{get_or_append_left, get_or-append_right, get_or_push, length_push, take-append-le, drop-append-le, drop_at, take_all, length-append, length-drop, append-nil}
 use Rattle.plan_model.specs.declared.task.Task.{Task}
 use Rattle.planner.specs.declared.front.Link.{Link}
-use Rattle.planner.specs.declared.cut.Cut.{Cut}
-use Rattle.planner.specs.declared.cut.Merge.{Merge}
+use Rattle.planner.specs.declared.cuts.Cut.{Cut}
+use Rattle.planner.specs.declared.cuts.Merge.{Merge}
 use Rattle.planner.specs.Fronts.{crosses_link}
 use Rattle.planner.specs.Cuts.{link_merge, merges_of, no_cut, cut_at, cuts_at, is_covered, may_cut, IsCut, IsCutOf, IsListed, AreCutsOf, AreCuts}
 use Rattle.plan_model.specs.Costs.{hash_of, merge_of}
@@ -201,9 +201,6 @@ cuts_frame task links merges more new covered flag set cuts is within h =
 
 -- the cuts of one more set
 module _ (task : Task) (links : List Link) (n : ℕ) (cuts new_cuts : List Cut) (merges new : List Merge) (starts : List ℕ) (covered : List Bool) (flag : Bool) (old : AreCuts task links cuts merges starts covered n) (adds : AddsCuts task links covered n 1 n cuts merges new_cuts new) (slot : (s : ℕ) → s < task.slots → 2 ^ s ≡ n → flag ≡ true) (some : length cuts < length new_cuts → flag ≡ true) where
-  ends' : List ℕ
-  ends' = starts ++ length new_cuts ∷ []
-
   longer : length new_cuts ≡ length cuts + length adds.more
   longer = ap length adds.cuts_are ∙ length-append cuts adds.more
 

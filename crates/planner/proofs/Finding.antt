@@ -27,7 +27,7 @@ use Rattle.planner.specs.inner.Shapes.{least_shape}
 use Rattle.planner.proofs.Fronting.{nothing_asked, all_asked}
 use Rattle.planner.proofs.Lower.{AreBlank, rows_low}
 use Rattle.planner.proofs.Upper.{plans}
-use Rattle.planner.proofs.Exists.{joined, rows_most}
+use Rattle.plan_model.proofs.Exists.{joined, rows_most}
 use Rattle.planner.proofs.Wholes.{IsLeastShape, shape_is}
 
 pub full_is : (task : Task) (full : ℕ) → full ≡ length task.rows - 1 → (full ≡ all_slots task.slots) × (full < length task.rows)

@@ -10,7 +10,6 @@ pub mod Lower
 pub mod Building
 pub mod Upper
 pub mod Tabling
-pub mod Exists
 pub mod Wholes
 pub mod Finding
 pub mod Choosing

@@ -17,7 +17,7 @@ use Rattle.plan_model.proofs.SetLaws.{has-apart}
 use Rattle.planner.specs.declared.front.Front.{Front}
 use Rattle.planner.specs.declared.front.Link.{Link}
 use Rattle.planner.specs.declared.cell.Cell.{Cell}
-use Rattle.planner.specs.declared.cut.Merge.{Merge}
+use Rattle.planner.specs.declared.cuts.Merge.{Merge}
 use Rattle.planner.specs.Fronts.{asked, first_item, longer_front, side_front, meet, crosses_link, link_at, head_at, turned, Ties, Joins, AreHeads, AreLinks}
 use Rattle.planner.specs.Cells.{any_at}
 use Rattle.planner.specs.Cuts.{link_merge, merges_of, merge_at}

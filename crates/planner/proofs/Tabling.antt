@@ -20,18 +20,18 @@ use Rattle.plan_model.specs.Costs.{rows_in, sort_cost}
 use Rattle.planner.specs.declared.front.Front.{Front}
 use Rattle.planner.specs.declared.cell.Cell.{Cell}
 use Rattle.planner.specs.declared.cell.TheConstants.{IMPOSSIBLE}
-use Rattle.planner.specs.declared.cut.Cut.{Cut}
+use Rattle.planner.specs.declared.cuts.Cut.{Cut}
 use Rattle.planner.specs.declared.ways.Ways.{Ways}
 use Rattle.planner.specs.Fronts.{listed}
 use Rattle.planner.specs.Cells.{blank, cell_at, cost_at, any_at, row_of}
 use Rattle.planner.specs.inner.Steps.{finished, IsStep, AreOffers}
-use Rattle.planner.specs.declared.cut.Merge.{Merge}
+use Rattle.planner.specs.declared.cuts.Merge.{Merge}
 use Rattle.planner.specs.Cuts.{cut_at, merge_at, is_covered, IsCutOf}
 use Rattle.planner.specs.Choices.{IsSorting, IsOffered, IsHashed, IsMerged, HashBound, MergesBound}
 use Rattle.planner.specs.Rows.{width, order_of, cuts_of, merges_in, sets_of, OffersBound, CutBound, IsCapped, IsCutBy, IsJoined, IsMade, IsRow, IsTable, AreRows}
 use Rattle.planner.proofs.Lower.{AreBlank}
 use Rattle.planner.proofs.Steps.{hash_falls, merges_fall, step_then, step_wider}
-use Rattle.planner.proofs.Exists.{rows_most, hash_most, merge_most}
+use Rattle.plan_model.proofs.Exists.{rows_most, hash_most, merge_most}
 use Rattle.planner.proofs.Upper.{facts, means_at}
 
 pub cut_falls : (ways : Ways) (rows : ℕ → List Cell) (cut : Cut) (f cost less : ℕ) → less ≤ cost → CutBound ways rows cut f cost → CutBound ways rows cut f less
@@ -81,9 +81,6 @@ offers_lower task table order set cost less low h =
 module _ (ways : Ways) (table : OfferTable) (rows : ℕ → List Cell) (set : ℕ) (r1 r2 r3 : List Cell) (count : length r3 ≡ width ways) (below : (f : ℕ) → f < width ways → cost_at r1 f ≤ IMPOSSIBLE) (offers : AreOffers ways.task.now table (listed ways.task.now) ways.fronts.items set r1) (reads : (f : ℕ) → f < width ways → OffersBound ways.task.now table (order_of ways f) set (cost_at r1 f)) (step : IsStep (width ways) (IsJoined ways rows (cuts_of ways set)) r1 r2) (joins : (k : ℕ) → k < length (cuts_of ways set) → (f : ℕ) → f < width ways → CutBound ways rows (cut_at (cuts_of ways set) k) f (cost_at r2 f)) (each : (f : ℕ) → f < width ways → cell_at r3 f ≡ finished (cell_at r2 f) (list_all (is_column_of set) (order_of ways f)) (cost_at r2 0 + sort_cost ways.task.now.rates (rows_in ways.task.now set))) where
   some : 0 < width ways
   some = omega (arith, ways.known.needs.some)
-
-  sorted_by : ℕ
-  sorted_by = cost_at r2 0 + sort_cost ways.task.now.rates (rows_in ways.task.now set)
 
   same_cost : (f : ℕ) → f < width ways → cost_at r3 f ≡ cost_at r2 f
   same_cost f h = ap (λ (x : Cell). x.cost) (each f h)

@@ -12,7 +12,7 @@ use Rattle.plan_model.specs.declared.task.Task.{Task}
 use Rattle.plan_model.specs.Plans.{crosses}
 use Rattle.planner.specs.declared.cell.Cell.{Cell}
 use Rattle.planner.specs.declared.cell.TheConstants.{IMPOSSIBLE}
-use Rattle.planner.specs.declared.cut.Cut.{Cut}
+use Rattle.planner.specs.declared.cuts.Cut.{Cut}
 use Rattle.planner.specs.declared.ways.Ways.{Ways}
 use Rattle.planner.specs.Fronts.{asked, listed}
 use Rattle.planner.specs.Cells.{cost_at, any_at}

@@ -10,7 +10,7 @@ use Rattle.plan_model.specs.Plans.{Merges, crosses, is_column_of}
 use Rattle.plan_model.specs.Costs.{rows_in, sort_cost, merge_of, hash_of}
 use Rattle.planner.specs.declared.front.Front.{Front}
 use Rattle.planner.specs.declared.cell.Cell.{Cell}
-use Rattle.planner.specs.declared.cut.Merge.{Merge}
+use Rattle.planner.specs.declared.cuts.Merge.{Merge}
 use Rattle.planner.specs.Fronts.{asked, head_at, longer_front}
 use Rattle.planner.specs.Cuts.{merge_at}
 use Rattle.planner.specs.Cells.{cost_at, any_at}

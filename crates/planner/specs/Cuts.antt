@@ -6,8 +6,8 @@ use Rattle.plan_model.specs.declared.task.Task.{Task}
 use Rattle.plan_model.specs.Costs.{merge_of, hash_of}
 use Rattle.planner.specs.declared.front.Front.{Front}
 use Rattle.planner.specs.declared.front.Link.{Link}
-use Rattle.planner.specs.declared.cut.Cut.{Cut}
-use Rattle.planner.specs.declared.cut.Merge.{Merge}
+use Rattle.planner.specs.declared.cuts.Cut.{Cut}
+use Rattle.planner.specs.declared.cuts.Merge.{Merge}
 use Rattle.planner.specs.Fronts.{crosses_link, side_front, AreNeeds}
 
 -- a cut of a set in two parts

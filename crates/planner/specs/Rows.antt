@@ -9,8 +9,8 @@ use Rattle.plan_model.specs.Plans.{IsValid, covers, delivers, is_column_of}
 use Rattle.plan_model.specs.Costs.{plan_cost, rows_in, sort_cost}
 use Rattle.planner.specs.declared.cell.Cell.{Cell}
 use Rattle.planner.specs.declared.cell.TheConstants.{IMPOSSIBLE}
-use Rattle.planner.specs.declared.cut.Cut.{Cut}
-use Rattle.planner.specs.declared.cut.Merge.{Merge}
+use Rattle.planner.specs.declared.cuts.Cut.{Cut}
+use Rattle.planner.specs.declared.cuts.Merge.{Merge}
 use Rattle.planner.specs.declared.ways.Ways.{Ways}
 use Rattle.planner.specs.Fronts.{asked, listed}
 use Rattle.planner.specs.Cells.{cell_at, cost_at, any_at, row_of, blank}

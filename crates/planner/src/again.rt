@@ -11,7 +11,7 @@ ghost use Rattle.planner.specs.Rows as set_rows;
 ghost use Rattle.planner.specs.inner.Built.{GivesOffer, IsChosen, IsCutChoice, IsJoinChoice};
 
 use crate::cell::{Cell, Choice, any_of, cost_of};
-use crate::cut::{Cut, Merge};
+use crate::cuts::{Cut, Merge};
 use crate::front::{Front, longer, serves};
 use crate::row::{cuts_at, merges_at, row_in};
 use crate::ways::Ways;

@@ -1,12 +1,33 @@
-//! The cuts of the sets of a task's slots, found once.
+//! Cuts of the sets of a task's slots in two parts, found once.
 ghost use Rattle.std.specs.Prelude.{◌≡◌, ℕ, [], ◌∷◌, ◌++◌, ◌+◌, ◌-◌, ◌^◌, ◌<◌, ◌≤◌, ◌&&◌, bit_and, IfOk, IsTrue, length};
 ghost use Rattle.planner.specs.Cuts.{merges_of, is_covered, AreCuts, IsCut};
 ghost use Rattle.planner.specs.inner.Cutting.{AddsCuts};
 
-use crate::cut::{Cut, Merge};
 use crate::front::{Link, crosses, side};
 use plan_model::{Task, hash_price, merge_price};
 use std::alloc::{AllocError, Global};
+
+/// A cut of a set in two parts that some edge crosses and that plans cover, with what joining them costs. Its merges
+/// stand from `from` to before `to` in the list of all.
+#[derive(Clone, Copy)]
+pub struct Cut {
+    pub left: usize,
+    pub right: usize,
+    /// Hashing the right part and looking up the left.
+    pub hash_price: u128,
+    /// Merging the parts.
+    pub merge_price: u128,
+    pub from: usize,
+    pub to: usize,
+}
+
+/// A merge of two parts on an edge: the front that asks for the need of the left one, and that of the right one.
+#[derive(Clone, Copy)]
+pub struct Merge {
+    pub edge: u32,
+    pub left_need: usize,
+    pub right_front: usize,
+}
 
 /// The cuts of all sets, as they are found.
 #[derive(Drop)]

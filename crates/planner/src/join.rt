@@ -8,7 +8,7 @@ ghost use Rattle.planner.specs.Choices.{IsMerged, MergesBound};
 ghost use Rattle.planner.specs.Rows.{IsCapped};
 
 use crate::cell::{Cell, any_of, hashed, merged};
-use crate::cut::Merge;
+use crate::cuts::Merge;
 use crate::front::longer;
 use adv_base::Item;
 

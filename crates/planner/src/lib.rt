@@ -20,7 +20,6 @@
 mod again;
 mod build;
 mod cell;
-mod cut;
 mod cuts;
 mod fill;
 mod found;
@@ -34,7 +33,7 @@ mod search;
 mod ways;
 mod whole;
 
-pub use cut::{Cut, Merge};
+pub use cuts::{Cut, Merge};
 pub use found::{Found, least};
 pub use front::{Front, Link, can_sort, has_front, longer, serves};
 pub use make::ways_of;

@@ -11,7 +11,7 @@ ghost use Rattle.planner.specs.Cuts.{cut_at};
 ghost use Rattle.planner.specs.Rows as set_rows;
 
 use crate::cell::{Cell, blank, cost_of, finished};
-use crate::cut::{Cut, Merge};
+use crate::cuts::{Cut, Merge};
 use crate::front::{Front, can_sort};
 use crate::join::{hash_row, merge_rows};
 use crate::read::read_row;

@@ -1,7 +1,7 @@
 //! What a search knows of its task before it knows any offer.
 ghost use Rattle.planner.specs.Cuts.{AreWays};
 
-use crate::cut::{Cut, Merge};
+use crate::cuts::{Cut, Merge};
 use crate::front::{Front, Link};
 use adv_base::Item;
 use plan_model::Task;

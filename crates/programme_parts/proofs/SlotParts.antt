@@ -1,9 +1,8 @@
 -- What makes the part of a statement.
 use Rattle.std.proofs.Common.{◌≡◌, ◌∙◌, ◌⊎◌, inl, inr, ℕ, zero, suc, ◌+◌, ◌<◌, ◌≤◌, List, [], ◌∷◌, ◌++◌, length, get_or, All, map, refl, sym, ap, subst, arith, length-append}
 use Rattle.std.specs.Prelude.{Some, slice_get}
-use Rattle.std.proofs.lemmas.Bool.{cases_eq}
 use Rattle.std.proofs.lemmas.List.{length-map}
-use Rattle.std.proofs.lemmas.Option.{slice_get_within, get_or_from_slice_get}
+use Rattle.std.proofs.lemmas.Option.{slice_get_within}
 use Rattle.adv_base.specs.declared.workload.block.Block.{Block}
 use Rattle.adv_base.specs.declared.workload.parts.Slot.{Slot}
 use Rattle.adv_base.specs.Items.{Order}
@@ -13,7 +12,6 @@ use Rattle.plan_model.specs.declared.task.Task.{Task}
 use Rattle.plan_model.specs.declared.template.Template.{Template}
 use Rattle.plan_model.specs.Orders.{interesting_orders}
 use Rattle.plan_model.specs.Totals.{no_candidates}
-use Rattle.interesting_orders.proofs.OrderLemmas.{interesting_orders-first, interesting_orders-differ}
 use Rattle.inum_cache.specs.declared.cache.Cache.{Cache}
 use Rattle.inum_cache.specs.Caches.{IsCacheOf, orders_of}
 use Rattle.inum_cache.specs.Numbering.{size_in}
@@ -21,7 +19,7 @@ use Rattle.inum_cache.specs.Templates.{FitsOrders}
 use Rattle.bip_model.specs.declared.slot_part.SlotPart.{SlotPart}
 use Rattle.bip_model.specs.Limits.Parts.{TemplateLimits}
 use Rattle.bip_model.specs.Values.{need}
-use Rattle.bip_model.specs.StandsFor.{given, least_given, candidates_on, IsGrant, IsSlotPart, SomeAsksNothing}
+use Rattle.bip_model.specs.StandsFor.{given, least_given, candidates_on, IsGrant, IsSlotPart}
 use Rattle.bip_model.proofs.Lists.{each-map}
 use Rattle.programme_parts.specs.Kept.{AsksNothingPast}
 use Rattle.programme_parts.specs.inner.Prices.{ArePriced, IsGrantOf, IsSlotPriced}
@@ -57,40 +55,6 @@ priced-more setting block cache k parts own before is =
     }
 
 -- ## The templates
-
--- one of a cache's templates fits its orders
-fits : (cache : Cache) (i : ℕ) (template : Template) → slice_get cache.templates i ≡ Some template → FitsOrders cache.choices.orders template
-fits cache i template found =
-    subst (FitsOrders cache.choices.orders) (get_or_from_slice_get cache.templates i template template found)
-    (cache.fit i template (slice_get_within cache.templates i template found))
-
--- only the first order of a slot is empty
-empty-first : (task : Task) (s i : ℕ) → i < length (interesting_orders task s) → get_or (interesting_orders task s) i [] ≡ [] → i ≡ 0
-empty-first task s i within empty =
-    elim (cases_eq i 0) [
-      | inl first ↦ first
-      | inr later ↦
-          let first : get_or (interesting_orders task s) 0 [] ≡ [] = ap (λ (os : List Order). get_or os 0 []) (interesting_orders-first task s).1 in
-          let after : 0 < i = omega (arith, later) in
-          absurd (interesting_orders-differ task s 0 i [] after within (first ∙ sym empty))
-    ]
-
-pub asks-nothing : (task : Task) (cache : Cache) (slots : ℕ) → slots ≡ task.slots → IsCacheOf task cache → SomeAsksNothing slots cache.templates
-asks-nothing task cache slots same is =
-    let plain = is.plain in
-    let template : Template = plain.template in
-    let fit : FitsOrders cache.choices.orders template = fits cache plain.number template plain.found in
-    let counted : length cache.choices.orders ≡ task.slots = is.slots in
-    record {
-      number = plain.number;
-      template = template;
-      found = plain.found;
-      asks_nothing = λ s here.
-          let below : s < task.slots = omega (arith, here, same) in
-          let sizes : size_in cache.choices.orders s ≡ length (interesting_orders task s) = ap length (is.orders s below) in
-          let within : need template s < size_in cache.choices.orders s = fit.within s (omega (arith, below, counted)) in
-          empty-first task s (need template s) (omega (arith, within, sizes)) (sym (plain.needs_are s));
-    }
 
 pub template-limits : (setting : TheSetting) (block : Block) (cache : Cache) (n : ℕ) (parts : List SlotPart) → ArePriced setting block cache n parts → n ≡ length cache.choices.orders → All (TemplateLimits parts) cache.templates
 template-limits setting block cache n parts priced count = λ i d h.

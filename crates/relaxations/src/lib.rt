@@ -6,6 +6,7 @@
 #![tactic(auto)]
 
 mod again;
+mod along_tree;
 mod attempts;
 mod clashing;
 mod configuration;
@@ -19,7 +20,6 @@ mod lifting;
 mod own_sets;
 mod path;
 mod planner;
-mod planning;
 mod proposals;
 mod recalling;
 mod retracing;

@@ -18,7 +18,7 @@ use Rattle.plan_model.specs.Totals.{block_of}
 use Rattle.bip_model.specs.declared.part.Part.{Part}
 use Rattle.bip_model.specs.declared.slot_part.SlotPart.{SlotPart}
 use Rattle.bip_model.specs.Limits.Programmes.{GrantsWithin}
-use Rattle.bip_model.specs.StandsFor.{AreEach, Blocked, IsGrant, IsSlotPart, IsPart, SomeAsksNothing, blocked_in, blocked_from, candidates_on}
+use Rattle.bip_model.specs.StandsFor.{AreEach, Blocked, IsGrant, IsSlotPart, IsPart, blocked_in, blocked_from, candidates_on}
 use Rattle.bip_model.proofs.Lists.{each-map}
 use Rattle.inum_cache.specs.Templates.{AreInOrder}
 use Rattle.programme_parts.specs.Kept.{AsksNothingPast, HasAllPlaces, HasKept}
@@ -136,9 +136,6 @@ part-by setting statements number weight b w old new is by heavy =
       task = is.task;
       task_is = is.task_is;
       decompose = subst (Decompose is.task) (sym by.templates_are) is.decompose;
-      some_plan =
-          subst (λ (slots : List SlotPart). SomeAsksNothing (length slots) new.templates) (sym by.slots_are)
-          (subst (SomeAsksNothing (length old.slots)) (sym by.templates_are) is.some_plan);
       slots_count = ap length by.slots_are ∙ is.slots_count;
       slots_are = λ s slot own found there.
           slot-by setting statements b.block is.task s slot own (is.slots_are s slot own found (subst (λ (slots : List SlotPart). slice_get slots s ≡ Some own) by.slots_are there));

@@ -17,7 +17,7 @@ use Rattle.plan_model.specs.Orders.{interesting_orders}
 use Rattle.bip_model.specs.declared.grant.Grant.{Grant}
 use Rattle.bip_model.specs.declared.slot_part.SlotPart.{SlotPart}
 use Rattle.bip_model.specs.declared.part.Part.{Part}
-use Rattle.bip_model.specs.StandsFor.{AreEach, Blocked, IsGrant, IsSlotPart, IsPart, SomeAsksNothing, candidates_on, least_given}
+use Rattle.bip_model.specs.StandsFor.{AreEach, Blocked, IsGrant, IsSlotPart, IsPart, candidates_on, least_given}
 use Rattle.bip_model.proofs.Lists.{All-some, each-length}
 use Rattle.inum_cache.specs.Templates.{AreInOrder}
 use Rattle.programme_parts.specs.Kept.{AsksNothingPast, HasAllPlaces, HasKept}
@@ -74,9 +74,6 @@ part-behind setting statements shapes b statement number old new numbers is behi
       task = is.task;
       task_is = is.task_is;
       decompose = subst (Decompose is.task) (sym behind.templates_are) is.decompose;
-      some_plan =
-          subst (λ (count : ℕ). SomeAsksNothing count new.templates) (sym long)
-          (subst (SomeAsksNothing (length old.slots)) (sym behind.templates_are) is.some_plan);
       slots_count = long ∙ is.slots_count;
       slots_are = λ s slot own found there.
           let before = each-found (IsSlotBehind number) old.slots new.slots s own behind.slots_are there in

@@ -94,7 +94,6 @@ part-apart setting statements fresh b part none is =
       task = is.task;
       task_is = is.task_is;
       decompose = is.decompose;
-      some_plan = is.some_plan;
       slots_count = is.slots_count;
       slots_are = λ s slot own found there.
           slot-apart setting statements fresh b.block is.task s slot own found

@@ -1,6 +1,6 @@
 //! Bounds that are worked out by hand, and those of small programmes at all nodes against a plain program.
 ghost use Rattle.std.specs.Prelude.{◌≡◌, ◌<◌, ◌≤◌, length, replicate};
-ghost use Rattle.adv_base.specs.declared.limits.TheConstants.{MOST_ROWS};
+ghost use Rattle.adv_base.specs.declared.limits.TheConstants.{MOST_PAGES};
 ghost use Rattle.bip_model.specs.declared.fix.State.TheVariants.{Free};
 ghost use Rattle.bip_model.specs.Views.{AreMultipliers};
 ghost use Rattle.lagrange_bound.specs.Ledgers as ledgers;
@@ -110,7 +110,7 @@ fn told(
     fix: &Fix,
     multipliers: &Multipliers,
 ) -> [i128; 3]
-    requires budget { budget ≤ MOST_ROWS }
+    requires budget { budget ≤ MOST_PAGES }
     requires multipliers { AreMultipliers listed.now.programme.now multipliers.now }
 {
     let programme = listed.programme;

@@ -188,9 +188,8 @@ goes_through end ps progress (Some f) front p rest split order later (left, fail
           subst (λ (l : List Terminal). MeansStatements no_statements l b) (ap (λ (l : List Terminal). l ++ more) taken ∙ append_assoc front (p ∷ middle) more) means,
         )
 
--- the statement whose place stands behind so many others
-
-record Parted (xs : List ParsedStatement) (n x : ℕ) : Type 0 where
+-- the statement whose place is this one stands behind so many others
+record StandsBehind (xs : List ParsedStatement) (n x : ℕ) : Type 0 where
   before : List ParsedStatement
   statement : ParsedStatement
   after : List ParsedStatement
@@ -198,7 +197,7 @@ record Parted (xs : List ParsedStatement) (n x : ℕ) : Type 0 where
   many : length before ≡ n
   begins : statement.place ≡ x
 
-part_at : (xs : List ParsedStatement) (ls : List ℕ) (x : ℕ) (rs : List ℕ) → places_of xs ≡ ls ++ x ∷ rs → Parted xs (length ls) x
+part_at : (xs : List ParsedStatement) (ls : List ℕ) (x : ℕ) (rs : List ℕ) → places_of xs ≡ ls ++ x ∷ rs → StandsBehind xs (length ls) x
 part_at [] [] x rs e = absurd cc
 part_at [] (l ∷ ls) x rs e = absurd cc
 part_at (s ∷ xs) [] x rs e = record { before = []; statement = s; after = xs; split = refl; many = refl; begins = cc }

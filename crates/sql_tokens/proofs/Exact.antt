@@ -15,18 +15,18 @@ use Rattle.sql_tokens.specs.declared.lexeme.NoLexeme.{NoLexeme}
 use Rattle.sql_tokens.specs.declared.lexeme.NoLexeme.TheVariants as stop
 use Rattle.sql_tokens.proofs.Runs.{run-stops, drop-front}
 use Rattle.sql_tokens.proofs.AtLeast.{AtLeast, at_least, front-number, front-decimal, begins-all, number_lexeme-decimal}
-use Rattle.sql_tokens.proofs.Sound.{Tells, tells, HasFront, has_quoted, is_that, first_of_begins}
+use Rattle.sql_tokens.proofs.Sound.{FrontTells, tells, HasFront, has_quoted, is_that, first_of_begins}
 
 text_open : (bs : List ℕ) (o : Option ℕ) → closing bs ≡ o → NoFront IsText (39 ∷ bs) → text_lexeme o ≡ Err stop.OpenText
 text_open bs None e n = refl
 text_open bs (Some m) e n =
-    let h : HasFront (form.Token kind.Text) (1 + m) (39 ∷ bs) = subst (λ o. Tells (39 ∷ bs) (text_lexeme o)) e (tells 39 bs) in
+    let h : HasFront (form.Token kind.Text) (1 + m) (39 ∷ bs) = subst (λ o. FrontTells (39 ∷ bs) (text_lexeme o)) e (tells 39 bs) in
     absurd (n h.bytes h.rest h.spelled h.is_form)
 
 comment_open : (bs : List ℕ) (o : Option ℕ) → comment_end bs ≡ o → NoFront IsBlockComment (47 ∷ 42 ∷ bs) → comment_lexeme o ≡ Err stop.OpenText
 comment_open bs None e n = refl
 comment_open bs (Some m) e n =
-    let h : HasFront form.BlockComment (2 + m) (47 ∷ 42 ∷ bs) = subst (λ o. Tells (47 ∷ 42 ∷ bs) (comment_lexeme o)) e (tells 47 (42 ∷ bs)) in
+    let h : HasFront form.BlockComment (2 + m) (47 ∷ 42 ∷ bs) = subst (λ o. FrontTells (47 ∷ 42 ∷ bs) (comment_lexeme o)) e (tells 47 (42 ∷ bs)) in
     absurd (n h.bytes h.rest h.spelled h.is_form)
 
 neither : {A : Type 0} (t z : Bool) (x y w : A) → (t ≡ true → z ≡ true → ⊥) → (t ≡ true → z ≡ false → ⊥) → cond t (cond z x y) w ≡ w
@@ -133,7 +133,7 @@ opens_no_comment b (c ∷ bs) n h =
     let m : is_mark b ≡ true = rw (h.0) refl in
     n (form.Token kind.Symbol) (b ∷ []) (c ∷ bs) refl m
 
-nothing_by : (b : ℕ) (bs : List ℕ) (r : Result Lexeme NoLexeme) → b ≢ 39 → b ≢ 34 → ((f : Form) → NoFront (IsForm f) (b ∷ bs)) → Tells (b ∷ bs) r → r ≡ Err (stop.BadByte 0)
+nothing_by : (b : ℕ) (bs : List ℕ) (r : Result Lexeme NoLexeme) → b ≢ 39 → b ≢ 34 → ((f : Form) → NoFront (IsForm f) (b ∷ bs)) → FrontTells (b ∷ bs) r → r ≡ Err (stop.BadByte 0)
 nothing_by b bs (Ok p) q m n t = absurd (n p.form t.bytes t.rest t.spelled t.is_form)
 nothing_by b bs (Err stop.OpenText) q m n t =
     absurd (elim t as (λ _. ⊥) [ inl a ↦ q (a.0) | inr k ↦ elim k as (λ _. ⊥) [ inl c ↦ m (c.0) | inr c ↦ opens_no_comment b bs n c ] ])
@@ -171,14 +171,14 @@ form_some (form.Token kind.Symbol) [] h = absurd h
 form_some (form.Token kind.Weight) [] h = absurd h
 form_some f (b ∷ bs) h = omega arith
 
-pub tells_some : (text : List ℕ) → 0 < length text → Tells text (front text)
+pub tells_some : (text : List ℕ) → 0 < length text → FrontTells text (front text)
 tells_some [] l = absurd (omega arith)
 tells_some (b ∷ bs) l = tells b bs
 
 same_lexeme : (f g : Form) (m n : ℕ) → f ≡ g → m ≡ n → lexeme f m ≡ lexeme g n
 same_lexeme f g m n a b = ap (λ h. lexeme h m) a ∙ ap (λ k. lexeme g k) b
 
-stands_by : (r : Result Lexeme NoLexeme) (f : Form) (bytes rest : List ℕ) → Stands f bytes rest → AtLeast r f (length bytes) → Tells (bytes ++ rest) r → r ≡ Ok (lexeme f (length bytes))
+stands_by : (r : Result Lexeme NoLexeme) (f : Form) (bytes rest : List ℕ) → Stands f bytes rest → AtLeast r f (length bytes) → FrontTells (bytes ++ rest) r → r ≡ Ok (lexeme f (length bytes))
 stands_by (Err stop.OpenText) f bytes rest h a t = absurd (h.closed t)
 stands_by (Err (stop.BadByte n)) f bytes rest h a t = absurd (h.good n t)
 stands_by (Ok p) f bytes rest h a t =

@@ -11,7 +11,7 @@ use Rattle.sql_tokens.specs.declared.lexeme.Form.TheVariants as form
 use Rattle.sql_tokens.specs.declared.lexeme.Lexeme.{Lexeme}
 use Rattle.sql_tokens.specs.declared.lexeme.NoLexeme.{NoLexeme}
 use Rattle.sql_tokens.specs.declared.lexeme.NoLexeme.TheVariants as stop
-use Rattle.sql_tokens.proofs.Sound.{Tells, HasFront}
+use Rattle.sql_tokens.proofs.Sound.{FrontTells, HasFront}
 use Rattle.sql_tokens.proofs.Exact.{front_stands, tells_some, open_front, bad_front, form_some}
 use Rattle.sql_tokens.proofs.OneCut.{one_cut, stopped_end, stopped_open, stopped_bad}
 
@@ -55,7 +55,7 @@ front_some [] p e = absurd (cc)
 front_some (b ∷ bs) p e = omega arith
 
 has_front : (rest : List ℕ) (p : Lexeme) → front rest ≡ Ok p → HasFront p.form p.length rest
-has_front rest p e = subst (Tells rest) e (tells_some rest (front_some rest p e))
+has_front rest p e = subst (FrontTells rest) e (tells_some rest (front_some rest p e))
 
 -- one lexeme more
 pub reached_more : (text rest : List ℕ) (at : ℕ) (list : List Token) (p : Lexeme) → Reached text rest at list → front rest ≡ Ok p → Reached text (drop p.length rest) (at + p.length) (list ++ tokens_of_lexeme at p.form (take p.length rest))
@@ -92,8 +92,8 @@ stops_open text rest at list r opens =
 -- no lexeme is there: the text has a fault, and the tokens so far are those before it
 pub reached_fault : (text rest : List ℕ) (at : ℕ) (list : List Token) (s : NoLexeme) → Reached text rest at list → 0 < length rest → front rest ≡ Err s →
     (has : HasFault text (fault_at at s)) × (list ≡ tokens_before text (fault_at at s) has)
-reached_fault text rest at list (stop.BadByte n) r l e = stops_bad text rest at n list r (subst (Tells rest) e (tells_some rest l))
-reached_fault text rest at list stop.OpenText r l e = stops_open text rest at list r (subst (Tells rest) e (tells_some rest l))
+reached_fault text rest at list (stop.BadByte n) r l e = stops_bad text rest at n list r (subst (FrontTells rest) e (tells_some rest l))
+reached_fault text rest at list stop.OpenText r l e = stops_open text rest at list r (subst (FrontTells rest) e (tells_some rest l))
 
 -- a lexeme has a byte
 pub lexeme_some : (rest : List ℕ) (p : Lexeme) → front rest ≡ Ok p → 0 < p.length

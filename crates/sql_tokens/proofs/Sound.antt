@@ -29,12 +29,12 @@ pub record HasFront (f : Form) (n : ℕ) (text : List ℕ) : Type 0 where
   pub is_form : IsForm f bytes
 
 -- what a front that is computed says
-abbrev pub Tells : List ℕ → Result Lexeme NoLexeme → Type 0
-Tells text (Ok p) = HasFront p.form p.length text
-Tells text (Err (stop.BadByte n)) = IsBad text n
-Tells text (Err stop.OpenText) = IsOpen text
+abbrev pub FrontTells : List ℕ → Result Lexeme NoLexeme → Type 0
+FrontTells text (Ok p) = HasFront p.form p.length text
+FrontTells text (Err (stop.BadByte n)) = IsBad text n
+FrontTells text (Err stop.OpenText) = IsOpen text
 
-tells_if : (text : List ℕ) (t : Bool) (x y : Result Lexeme NoLexeme) → (t ≡ true → Tells text x) → (t ≡ false → Tells text y) → Tells text (cond t x y)
+tells_if : (text : List ℕ) (t : Bool) (x y : Result Lexeme NoLexeme) → (t ≡ true → FrontTells text x) → (t ≡ false → FrontTells text y) → FrontTells text (cond t x y)
 tells_if text true x y f g = f refl
 tells_if text false x y f g = g refl
 
@@ -202,7 +202,7 @@ text_ends (b ∷ c ∷ bs) =
     found (eqb b 39) refl
 
 -- a number, which a letter may follow
-tells-apart : (p : Lexeme) (text : List ℕ) (h : HasFront p.form p.length text) → IsWhole h.bytes ⊎ IsDecimal h.bytes → Tells text (apart p text)
+tells-apart : (p : Lexeme) (text : List ℕ) (h : HasFront p.form p.length text) → IsWhole h.bytes ⊎ IsDecimal h.bytes → FrontTells text (apart p text)
 tells-apart p text h k =
     let e : drop p.length text ≡ h.rest = ap (drop p.length) h.spelled ∙ drop_at h.bytes h.rest p.length h.long in
     tells_if text (begins is_letter (drop p.length text)) (Err (stop.BadByte p.length)) (Ok p)
@@ -274,13 +274,13 @@ has_number_behind text d =
     ] in
     found (begins_fraction behind) refl
 
-tells-number : (text : List ℕ) → begins is_digit text ≡ true → Tells text (number text)
+tells-number : (text : List ℕ) → begins is_digit text ≡ true → FrontTells text (number text)
 unfolding number number_lexeme
 tells-number text d =
     let h = has_number_behind text d in
     tells-apart (number_behind (prefix_len is_digit text) (drop (prefix_len is_digit text) text)) text h.front h.is_number
 
-tells-fraction : (bs : List ℕ) → begins is_digit bs ≡ true → Tells (46 ∷ bs) (number (46 ∷ bs))
+tells-fraction : (bs : List ℕ) → begins is_digit bs ≡ true → FrontTells (46 ∷ bs) (number (46 ∷ bs))
 unfolding number
 tells-fraction bs d =
     let h = has_decimal (46 ∷ bs) [] bs (0 + (1 + prefix_len is_digit bs)) refl refl d refl in
@@ -320,7 +320,7 @@ no_quoted bs q xs ys e h =
     ap quoted (t ∙ append_assoc h.name (34 ∷ []) ys) ∙ quoted-found h.name ys h.some h.name_bytes in
     cc
 
-tells-quoted : (bs : List ℕ) → Tells (34 ∷ bs) (quoted bs)
+tells-quoted : (bs : List ℕ) → FrontTells (34 ∷ bs) (quoted bs)
 unfolding quoted
 tells-quoted bs =
     let r = run_of is_name_byte bs in
@@ -340,7 +340,7 @@ no_text bs q xs ys e h =
     let f : closing bs ≡ Some i.end = ap closing (t ∙ append_assoc (doubled h.content) (39 ∷ []) ys) ∙ i.is in
     cc
 
-tells-text : (bs : List ℕ) (o : Option ℕ) → closing bs ≡ o → TextEnds o bs → Tells (39 ∷ bs) (text_lexeme o)
+tells-text : (bs : List ℕ) (o : Option ℕ) → closing bs ≡ o → TextEnds o bs → FrontTells (39 ∷ bs) (text_lexeme o)
 tells-text bs None e i = inl (refl, no_text bs e)
 tells-text bs (Some n) e i = record {
   bytes = 39 ∷ (doubled i.content ++ 39 ∷ []);
@@ -357,7 +357,7 @@ no_block bs q xs ys e h =
     ap comment_end (t ∙ append_assoc h.inside (42 ∷ 47 ∷ []) ys) ∙ comment_end-found h.inside ys h.first_end in
     cc
 
-tells-block : (bs : List ℕ) (o : Option ℕ) → comment_end bs ≡ o → CommentEnds o bs → Tells (47 ∷ 42 ∷ bs) (comment_lexeme o)
+tells-block : (bs : List ℕ) (o : Option ℕ) → comment_end bs ≡ o → CommentEnds o bs → FrontTells (47 ∷ 42 ∷ bs) (comment_lexeme o)
 tells-block bs None e i = inr (inr (refl, refl, no_block bs e))
 tells-block bs (Some n) e i = record {
   bytes = 47 ∷ 42 ∷ (i.inside ++ 42 ∷ 47 ∷ []);
@@ -367,7 +367,7 @@ tells-block bs (Some n) e i = record {
   is_form = record { inside = i.inside; spelled = refl; first_end = i.first_end };
 }
 
-tells-slash : (bs : List ℕ) → begins (λ c. eqb c 42) bs ≡ true → Tells (47 ∷ bs) (comment_lexeme (comment_end (drop 1 bs)))
+tells-slash : (bs : List ℕ) → begins (λ c. eqb c 42) bs ≡ true → FrontTells (47 ∷ bs) (comment_lexeme (comment_end (drop 1 bs)))
 tells-slash [] h = absurd (cc)
 tells-slash (c ∷ bs) h = rw (is_that 42 c h) (tells-block bs (comment_end bs) refl (comment_ends bs))
 
@@ -400,7 +400,7 @@ no_front text e f xs ys q h =
     let l : 0 < 0 = subst (λ r. AtLeast r f (length xs)) g a in
     absurd (omega arith)
 
-tells-symbol : (b : ℕ) (bs : List ℕ) → class_of b ≡ class.Other → b ≢ 39 → b ≢ 34 → Tells (b ∷ bs) (symbol b bs)
+tells-symbol : (b : ℕ) (bs : List ℕ) → class_of b ≡ class.Other → b ≢ 39 → b ≢ 34 → FrontTells (b ∷ bs) (symbol b bs)
 unfolding symbol
 tells-symbol b bs k n m =
     let none : Result Lexeme NoLexeme = Err (stop.BadByte 0) in
@@ -416,7 +416,7 @@ tells-symbol b bs k n m =
     (λ t3. let e : front (b ∷ bs) ≡ none = ap (λ c. front_by c b bs) k ∙ rw (t1, t2, t3) refl in
     inr (inr (n, m, no_front (b ∷ bs) e, refl)))))
 
-tells_by : (k : Class) (b : ℕ) (bs : List ℕ) → class_of b ≡ k → IsOfClass k b → Tells (b ∷ bs) (front_by k b bs)
+tells_by : (k : Class) (b : ℕ) (bs : List ℕ) → class_of b ≡ k → IsOfClass k b → FrontTells (b ∷ bs) (front_by k b bs)
 tells_by class.Blank b bs k c = record { bytes = b ∷ []; rest = bs; spelled = refl; long = refl; is_form = c }
 tells_by class.Letter b bs k c = tells-word b bs c
 tells_by class.Digit b bs k c = tells-number (b ∷ bs) c
@@ -433,5 +433,5 @@ tells_by class.Slash b bs k c =
     (λ d. tells-slash bs d) (λ _. tells-mark 47 bs refl))
 tells_by class.Other b bs k c = tells-symbol b bs k c.0 c.1
 
-pub tells : (b : ℕ) (bs : List ℕ) → Tells (b ∷ bs) (front (b ∷ bs))
+pub tells : (b : ℕ) (bs : List ℕ) → FrontTells (b ∷ bs) (front (b ∷ bs))
 tells b bs = tells_by (class_of b) b bs refl (class_tells b)

@@ -15,7 +15,7 @@ use Rattle.sql_tokens.specs.declared.lexeme.Form.TheVariants as form
 use Rattle.sql_tokens.specs.declared.lexeme.Lexeme.{Lexeme}
 use Rattle.sql_tokens.specs.declared.lexeme.NoLexeme.{NoLexeme}
 use Rattle.sql_tokens.proofs.Ahead.{ahead_lexeme}
-use Rattle.sql_tokens.proofs.Sound.{Tells, HasFront, tells}
+use Rattle.sql_tokens.proofs.Sound.{FrontTells, HasFront, tells}
 use Rattle.sql_reader.specs.Terminals.{bytes_of, is_weight}
 
 -- each element of a list
@@ -80,7 +80,7 @@ spelled_in (suc n) at text [] is = tt
 spelled_in (suc n) at text (b ∷ bs) is = by_front (λ to rest e. spelled_in n to text rest e) (front (b ∷ bs)) (tells b bs)
   where
     by_front : ((to : ℕ) (rest : List ℕ) → drop to text ≡ rest → Each (IsSpelled text) (ahead_in n to rest).tokens) →
-        (x : Result Lexeme NoLexeme) → Tells (b ∷ bs) x → Each (IsSpelled text) (with_lexeme at (b ∷ bs) (ahead_in n) x).tokens
+        (x : Result Lexeme NoLexeme) → FrontTells (b ∷ bs) x → Each (IsSpelled text) (with_lexeme at (b ∷ bs) (ahead_in n) x).tokens
     by_front behind (Ok p) h =
         each_append (IsSpelled text) (tokens_of_lexeme at p.form (take p.length (b ∷ bs))) (ahead_in n (at + p.length) (drop p.length (b ∷ bs))).tokens
         (one_spelled text (b ∷ bs) at p.form p.length is h)

@@ -1,7 +1,7 @@
 -- What the offers that are kept for a slot stand for.
 use Rattle.std.specs.Prelude.{ℕ, List, map, Option}
 use Rattle.adv_base.specs.Offers.{Offer}
-use Rattle.access_paths.specs.declared.slot_offer.SlotOffer.{SlotOffer}
+use Rattle.access_paths.specs.declared.slot_offers.SlotOffer.{SlotOffer}
 
 -- the order and the price of an offer
 abbrev pub offer_of : SlotOffer → Offer

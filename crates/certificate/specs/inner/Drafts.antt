@@ -1,7 +1,7 @@
 -- What a draft keeps.
 use Rattle.std.specs.Prelude.{◌≡◌, ℕ, zero, suc, ◌+◌, ◌%◌, ◌<◌, ◌≤◌, ◌^◌, ℤ, List, [], ◌∷◌, length}
 use Rattle.std.specs.List.{AllByRecursion}
-use Rattle.adv_base.specs.declared.limits.TheConstants.{MOST_ROWS, MOST_PAGE_PRICE, MOST_SETS, MOST_ENTRIES, MOST_NODES}
+use Rattle.adv_base.specs.declared.limits.TheConstants.{MOST_PAGES, MOST_PAGE_PRICE, MOST_SETS, MOST_ENTRIES, MOST_NODES}
 use Rattle.bip_model.specs.declared.answer.Node.{Node}
 use Rattle.certificate.specs.Limits.{Rise, IsSmall, SetLimits, EntriesFrom, NodeLimits, entry_place, entry_count}
 use Rattle.certificate.specs.declared.cert.Cert.{Cert}
@@ -32,7 +32,7 @@ Leave (suc more) (node ∷ nodes) left = Leave (trees_after (suc more) node) nod
 pub record HeadFits (version budget : ℕ) (config : List ℕ) (cost : ℕ) (bound : ℤ) : Type 0 where
   pub version_least : 1 ≤ version
   pub version_most : version ≤ 2
-  pub budget_most : budget ≤ MOST_ROWS
+  pub budget_most : budget ≤ MOST_PAGES
   pub config_rises : Rise 1 config
   pub cost_small : cost < 2 ^ 127
   pub bound_small : IsSmall bound

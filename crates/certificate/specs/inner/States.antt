@@ -2,7 +2,7 @@
 use Rattle.std.specs.Prelude.{ℕ, List}
 use Rattle.certificate.specs.declared.state.State.{State}
 use Rattle.certificate.specs.declared.state.State.TheVariants as states
-use Rattle.certificate.specs.inner.Readings.{IsRead, IsReached, Breaks}
+use Rattle.certificate.specs.inner.Pieces.{IsRead, IsReached, Breaks}
 
 abbrev pub StandsForAt : State → List ℕ → Type 0
 StandsForAt (states.Reading reading) text = IsRead reading text

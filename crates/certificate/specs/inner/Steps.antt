@@ -1,6 +1,6 @@
 -- From line to line: what the lines so far leave to come, and which line may come next.
 use Rattle.std.specs.Prelude.{◌≡◌, ℕ, zero, suc, ◌+◌, ◌-◌, ◌%◌, ◌<◌, ◌≤◌, ◌^◌, ℤ, pos, Bool, true, false, List, [], ◌∷◌, ◌++◌, length}
-use Rattle.adv_base.specs.declared.limits.TheConstants.{MOST_ROWS, MOST_SETS, MOST_ENTRIES, MOST_NODES}
+use Rattle.adv_base.specs.declared.limits.TheConstants.{MOST_PAGES, MOST_SETS, MOST_ENTRIES, MOST_NODES}
 use Rattle.bip_model.specs.declared.answer.Node.{Node}
 use Rattle.bip_model.specs.declared.answer.Node.TheVariants.{Branch, Bounded, Overfull}
 use Rattle.certificate.specs.Limits.{Rise, IsSmall, EntryLimits, NodeLimits, entry_place}
@@ -82,7 +82,7 @@ abbrev pub StepAt : Stage → Draft → List ℕ → Draft → Type 0
 StepAt stages.Title d line e =
     (n : ℕ) × (1 ≤ n) × (n ≤ 2) × (line ≡ title_line n) × (e ≡ record d { version = n; stage = stages.Budget })
 StepAt stages.Budget d line e =
-    (n : ℕ) × (n ≤ MOST_ROWS) × (line ≡ budget_line n) × (e ≡ record d { budget = n; stage = stages.Config })
+    (n : ℕ) × (n ≤ MOST_PAGES) × (line ≡ budget_line n) × (e ≡ record d { budget = n; stage = stages.Config })
 StepAt stages.Config d line e =
     (ns : List ℕ) × Rise 1 ns × (line ≡ config_line ns) × (e ≡ record d { config = ns; stage = stages.Cost })
 StepAt stages.Cost d line e =

@@ -27,7 +27,7 @@ Refuses conf setting why = ⊥
 
 -- The bytes give a configuration, and the size is its pages. Each statement has few enough combinations. Each cost is that of
 -- a least plan over its indexes and those that exist, and of the upkeep of both, and the total has the weights.
-pub record ArePrices (setting : TheSetting) (conf : List ℕ) (prices : Prices) : Type 0 where
+pub record ArePricesUnder (setting : TheSetting) (conf : List ℕ) (prices : Prices) : Type 0 where
   pub config : Config
   pub config_is : IsConf (length setting.shapes) conf config
   pub few : AreFew setting.cat setting.statements
@@ -37,5 +37,5 @@ pub record ArePrices (setting : TheSetting) (conf : List ℕ) (prices : Prices) 
 
 -- prices with a size
 abbrev pub Gives : List ℕ → TheSetting → Done → Type 0
-Gives conf setting (Priced prices) = ArePrices setting conf prices
+Gives conf setting (Priced prices) = ArePricesUnder setting conf prices
 Gives conf setting done = ⊥

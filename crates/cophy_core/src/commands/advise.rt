@@ -1,6 +1,6 @@
 //! `advise`: which candidates to make within a budget of pages.
 ghost use Rattle.std.specs.Prelude.{◌≡◌, ◌≤◌, length, option_map, IfOk, IfErr, Some};
-ghost use Rattle.adv_base.specs.declared.limits.TheConstants.{MOST_CANDIDATES, MOST_NODES, MOST_ROWS};
+ghost use Rattle.adv_base.specs.declared.limits.TheConstants.{MOST_CANDIDATES, MOST_NODES, MOST_PAGES};
 ghost use Rattle.bip_model.specs.StandsFor.{StandsFor};
 ghost use Rattle.bip_model.specs.Views.{node_of};
 ghost use Rattle.branch_bound.specs.Sides.{IsRoot};
@@ -103,7 +103,7 @@ pub(crate) fn advice_below(
     requires stands { StandsFor (the_setting setting.now) programme.now }
     requires few { AreFew setting.now.cat.now setting.now.statements.now }
     requires root { IsRoot programme.now setting.now.shapes.now budget root.now }
-    requires budget { budget ≤ MOST_ROWS }
+    requires budget { budget ≤ MOST_PAGES }
     requires some { 1 ≤ nodes }
     requires nodes { nodes ≤ MOST_NODES }
     ensures advice { IfOk result (spec.IsAdviceFrom (node_of root.now) budget nodes (the_setting setting.now)) }
@@ -143,7 +143,7 @@ pub(crate) fn best_advice(
     requires found { AreCandidates setting.now.cat.now setting.now.statements.now setting.now.shapes.now left_over }
     requires stands { StandsFor (the_setting setting.now) programme.now }
     requires few { AreFew setting.now.cat.now setting.now.statements.now }
-    requires budget { budget ≤ MOST_ROWS }
+    requires budget { budget ≤ MOST_PAGES }
     requires some { 1 ≤ nodes }
     requires nodes { nodes ≤ MOST_NODES }
     ensures advice { IfOk result (spec.IsAdvice budget nodes (the_setting setting.now)) }
@@ -165,7 +165,7 @@ pub(crate) fn advice_on(
     nodes: u32,
 ) -> Result<Advice, Stop>
     requires found { AreCandidates setting.now.cat.now setting.now.statements.now setting.now.shapes.now left_over }
-    requires budget { budget ≤ MOST_ROWS }
+    requires budget { budget ≤ MOST_PAGES }
     requires some { 1 ≤ nodes }
     requires nodes { nodes ≤ MOST_NODES }
     ensures advice { IfOk result (spec.IsAdvice budget nodes (the_setting setting.now)) }
@@ -187,7 +187,7 @@ pub(crate) fn advise(
     cert: Option<&str>,
 ) -> Result<Worked, Stop>
     requires found { AreCandidates setting.now.cat.now setting.now.statements.now setting.now.shapes.now left_over }
-    requires budget { budget ≤ MOST_ROWS }
+    requires budget { budget ≤ MOST_PAGES }
     requires some { 1 ≤ nodes }
     requires nodes { nodes ≤ MOST_NODES }
     ensures gives { IfOk result (λ worked. spec.Gives budget nodes (the_setting setting.now) worked.done) }

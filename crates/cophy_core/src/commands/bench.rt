@@ -1,7 +1,7 @@
 //! `bench`: advice on a workload that is made.
 ghost use Rattle.std.specs.Prelude.{◌≡◌, ◌≤◌, IfOk, IfErr, Some, length, sum_by};
 ghost use Rattle.adv_base.specs.Limits.Settings as settings;
-ghost use Rattle.adv_base.specs.declared.limits.TheConstants.{MOST_ROWS, MOST_SLOTS};
+ghost use Rattle.adv_base.specs.declared.limits.TheConstants.{MOST_PAGES, MOST_SLOTS};
 ghost use Rattle.adv_base.specs.Settings.{the_setting};
 ghost use Rattle.candidates.specs.Candidates.{AreCandidates};
 ghost use Rattle.report.specs.Texts.{FitsSetting};
@@ -56,7 +56,7 @@ pub(crate) fn bench(
     budget: u64,
 ) -> Result<Done, Stop>
     requires found { AreCandidates setting.now.cat.now setting.now.statements.now setting.now.shapes.now left_over }
-    requires budget { budget ≤ MOST_ROWS }
+    requires budget { budget ≤ MOST_PAGES }
     ensures gives { IfOk result (spec.Gives budget (the_setting setting.now)) }
     ensures fits { IfOk result (FitsSetting (Some (the_setting setting.now))) }
     ensures bound { IfOk result IsBounded }

@@ -1,7 +1,7 @@
 //! `retune`: advice wherever a script asks for it that changes the workload step by step.
 ghost use Rattle.std.specs.Prelude.{◌≡◌, ◌≤◌, ℕ, List, map, length, All, IfOk, IfErr, OnOk, Some};
 ghost use Rattle.adv_base.specs.declared.catalogue.Catalogue as catalogues;
-ghost use Rattle.adv_base.specs.declared.limits.TheConstants.{MOST_FILE_BYTES, MOST_NODES, MOST_ROWS, MOST_WEIGHT};
+ghost use Rattle.adv_base.specs.declared.limits.TheConstants.{MOST_FILE_BYTES, MOST_NODES, MOST_PAGES, MOST_WEIGHT};
 ghost use Rattle.adv_base.specs.declared.workload.Statement as statements;
 ghost use Rattle.adv_base.specs.Named.{NamesWork};
 ghost use Rattle.adv_base.specs.Settings.{the_setting};
@@ -203,7 +203,7 @@ fn advice_over(
 ) -> Result<Tuned, NoMemory>
     requires cat { session.now.cat ≡ cat.now }
     requires few { AreFew cat.now session.now.statements }
-    requires budget { budget ≤ MOST_ROWS }
+    requires budget { budget ≤ MOST_PAGES }
     requires some { 1 ≤ nodes }
     requires nodes { nodes ≤ MOST_NODES }
     ensures tuned { IfOk result (spec.IsTunedOver cat.now budget nodes session.now.statements) }
@@ -244,7 +244,7 @@ fn put_tuned(
 ) -> Result<(), NoMemory>
     requires cat { session.now.cat ≡ cat.now }
     requires few { AreFew cat.now session.now.statements }
-    requires budget { budget ≤ MOST_ROWS }
+    requires budget { budget ≤ MOST_PAGES }
     requires some { 1 ≤ nodes }
     requires nodes { nodes ≤ MOST_NODES }
     ensures { OnOk result (inner.IsOneMore cat.now budget nodes session.now.statements all.old.items all.new.items) }
@@ -279,7 +279,7 @@ fn put_asked(
 ) -> Result<(), NoMemory>
     requires cat { session.now.cat ≡ cat.now }
     requires few { AreFew cat.now session.now.statements }
-    requires budget { budget ≤ MOST_ROWS }
+    requires budget { budget ≤ MOST_PAGES }
     requires some { 1 ≤ nodes }
     requires nodes { nodes ≤ MOST_NODES }
     ensures { OnOk result (inner.IsTold cat.now budget nodes session.now.statements (scripts.is_advise (scripts.the_edit edit.entry)) all.old.items all.new.items) }
@@ -304,7 +304,7 @@ fn advices(
     requires few_lines { length edits.now ≤ MOST_LINES }
     requires cat { session.old.cat ≡ cat.now }
     requires few { AreFew cat.now session.old.statements }
-    requires budget { budget ≤ MOST_ROWS }
+    requires budget { budget ≤ MOST_PAGES }
     requires some { 1 ≤ nodes }
     requires nodes { nodes ≤ MOST_NODES }
     ensures tuned { IfOk result (λ tuned. spec.AreTunedOver cat.now budget nodes session.old.statements (map scripts.the_edit edits.now) tuned) }
@@ -382,7 +382,7 @@ pub(crate) fn retune_workload(
     requires read { AreStatementsOf setting.now.cat.now load.now setting.now.statements.now }
     requires short { length load.now ≤ MOST_FILE_BYTES }
     requires script_short { length script.now ≤ MOST_FILE_BYTES }
-    requires budget { budget ≤ MOST_ROWS }
+    requires budget { budget ≤ MOST_PAGES }
     requires some { 1 ≤ nodes }
     requires nodes { nodes ≤ MOST_NODES }
     ensures gives { IfOk result (spec.Gives budget nodes script.now (the_setting setting.now)) }

@@ -1,6 +1,6 @@
 //! `ruled`: which candidates to make within a budget of pages, under an administrator's rules.
 ghost use Rattle.std.specs.Prelude.{◌≢◌, ◌≤◌, length, option_map, IfOk, IfErr, Some};
-ghost use Rattle.adv_base.specs.declared.limits.TheConstants.{MOST_FILE_BYTES, MOST_NODES, MOST_ROWS};
+ghost use Rattle.adv_base.specs.declared.limits.TheConstants.{MOST_FILE_BYTES, MOST_NODES, MOST_PAGES};
 ghost use Rattle.dba_rules.specs.declared.fault.RuleFault.TheVariants as faults;
 ghost use Rattle.dba_rules.specs.Rules.{IsFreePast};
 ghost use Rattle.adv_base.specs.Settings.{the_setting};
@@ -56,7 +56,7 @@ pub(crate) fn ruled(
 ) -> Result<Worked, Stop>
     requires found { AreCandidates setting.now.cat.now setting.now.statements.now setting.now.shapes.now left_over }
     requires rules { length rules.now ≤ MOST_FILE_BYTES }
-    requires budget { budget ≤ MOST_ROWS }
+    requires budget { budget ≤ MOST_PAGES }
     requires some { 1 ≤ nodes }
     requires nodes { nodes ≤ MOST_NODES }
     ensures gives { IfOk result (λ worked. spec.Gives budget nodes rules.now (the_setting setting.now) worked.done) }

@@ -1,6 +1,6 @@
 //! `sweep`: which candidates to make within each of several budgets of pages.
 ghost use Rattle.std.specs.Prelude.{◌≡◌, ◌+◌, ◌-◌, ◌*◌, ◌≤◌, ◌++◌, ℕ, decimal, length, slice_get, string_bytes, option_map, IfOk, IfErr, Some};
-ghost use Rattle.adv_base.specs.declared.limits.TheConstants.{MOST_CANDIDATES, MOST_NODES, MOST_ROWS};
+ghost use Rattle.adv_base.specs.declared.limits.TheConstants.{MOST_CANDIDATES, MOST_NODES, MOST_PAGES};
 ghost use Rattle.adv_base.specs.Settings.{the_setting};
 ghost use Rattle.bip_model.specs.declared.point.Point as points;
 ghost use Rattle.bip_model.specs.StandsFor.{StandsFor};
@@ -131,7 +131,7 @@ pub(crate) fn sweep(
     requires some_step { 1 ≤ step }
     requires some { 1 ≤ count }
     requires most { count ≤ 16 }
-    requires last { first + step * (count - 1) ≤ MOST_ROWS }
+    requires last { first + step * (count - 1) ≤ MOST_PAGES }
     requires some_node { 1 ≤ nodes }
     requires nodes { nodes ≤ MOST_NODES }
     ensures gives { IfOk result (λ worked. spec.Gives first step count nodes (the_setting setting.now) worked.done) }

@@ -1,7 +1,7 @@
 -- What a certificate claims beside its tree, as the checker keeps it.
 use Rattle.std.specs.Prelude.{◌≡◌, ℕ, ◌<◌, ◌≤◌, List, Some, length, map, slice_get}
 use Rattle.std.specs.List.{AllByRecursion}
-use Rattle.adv_base.specs.declared.limits.TheConstants.{MOST_ENTRIES, MOST_ROWS, MOST_SETS}
+use Rattle.adv_base.specs.declared.limits.TheConstants.{MOST_ENTRIES, MOST_PAGES, MOST_SETS}
 use Rattle.bip_model.specs.declared.answer.Node.{Node}
 use Rattle.certificate.specs.declared.cert.Cert.{Cert}
 use Rattle.certificate.specs.Limits.{Rise, SetLimits, entry_count}
@@ -11,7 +11,7 @@ use Rattle.gap_checker.specs.Views.{multipliers_of}
 
 -- the limits of a certificate, but for those of its tree
 pub record KeepsLimits (claims : Claims) : Type 0 where
-  pub budget_most : claims.budget ≤ MOST_ROWS
+  pub budget_most : claims.budget ≤ MOST_PAGES
   pub config_rises : Rise 1 claims.config.now
   pub few_sets : length claims.sets.now ≤ MOST_SETS
   pub each : AllByRecursion SetLimits claims.sets.now

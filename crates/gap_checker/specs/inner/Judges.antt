@@ -90,8 +90,8 @@ pub record IsWalk (judge : Judge) (read : List Node) (starts : List nodes.Node) 
   pub trees : (rest : List Node) → AreTrees 1 (read ++ rest) ↔ AreTrees (length starts) rest
 
 -- a node more of a tree, whatever was read before it
-abbrev pub GoesOn : Judge → List nodes.Node → Node → List nodes.Node → Type 0
-GoesOn judge old node new = (read : List Node) → IsWalk judge read old → IsWalk judge (read ++ node ∷ []) new
+abbrev pub WalksOn : Judge → List nodes.Node → Node → List nodes.Node → Type 0
+WalksOn judge old node new = (read : List Node) → IsWalk judge read old → IsWalk judge (read ++ node ∷ []) new
 
 -- or the fault there, whatever comes behind it
 abbrev pub IsNextFault : Judge → List nodes.Node → ℕ → Node → CheckFault → Type 0

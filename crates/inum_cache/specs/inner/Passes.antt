@@ -9,8 +9,8 @@ use Rattle.plan_model.specs.declared.template.Template.{Template}
 use Rattle.plan_model.specs.Plans.{IsValid, is_column_of}
 use Rattle.plan_model.specs.Costs.{rows_in, sort_cost}
 use Rattle.plan_model.specs.Exchange.{choice}
-use Rattle.planner.specs.declared.cut.Cut.{Cut}
-use Rattle.planner.specs.declared.cut.Merge.{Merge}
+use Rattle.planner.specs.declared.cuts.Cut.{Cut}
+use Rattle.planner.specs.declared.cuts.Merge.{Merge}
 use Rattle.planner.specs.declared.ways.Ways.{Ways}
 use Rattle.planner.specs.Fronts.{begins_test, head_at, longer_front}
 use Rattle.planner.specs.Cuts.{cut_at, merge_at, is_covered}

@@ -34,6 +34,6 @@ abbrev pub plan_judged : Task → OfferTable → Plan → Judged
 plan_judged task table plan = record { covers = covers plan; cost = plan_cost task table plan }
 
 -- it covers slots of the task, and costs no more than a plan may
-pub record IsKept (task : Task) (judged : Judged) : Type 0 where
+pub record JudgedLimits (task : Task) (judged : Judged) : Type 0 where
   pub within : judged.covers < 2 ^ task.slots
   pub most : judged.cost < MOST_COST

@@ -14,7 +14,7 @@ use Rattle.planner.specs.declared.cell.Choice.{Choice}
 use Rattle.planner.specs.declared.cell.Choice.TheVariants.{Read, MergeOf, HashOf}
 use Rattle.planner.specs.Sorts.{SortsWanted}
 use Rattle.planner.specs.Fronts.{asked}
-use Rattle.planner.specs.declared.cut.Cut.{Cut}
+use Rattle.planner.specs.declared.cuts.Cut.{Cut}
 use Rattle.planner.specs.declared.ways.Ways.{Ways}
 use Rattle.planner.specs.Cuts.{IsCut, cut_at, merge_at}
 use Rattle.planner.specs.Choices.{IsRead, IsMerge, IsHash, IsHashed, IsMergedBy}

@@ -2,8 +2,8 @@
 use Rattle.std.specs.Prelude.{◌≡◌, ℕ, ◌-◌, ◌<◌, ◌≤◌, Bool, true, List, ◌++◌, length}
 use Rattle.plan_model.specs.declared.task.Task.{Task}
 use Rattle.planner.specs.declared.front.Link.{Link}
-use Rattle.planner.specs.declared.cut.Cut.{Cut}
-use Rattle.planner.specs.declared.cut.Merge.{Merge}
+use Rattle.planner.specs.declared.cuts.Cut.{Cut}
+use Rattle.planner.specs.declared.cuts.Merge.{Merge}
 use Rattle.planner.specs.Cuts.{merges_of, cut_at, may_cut, IsCutOf, IsListed}
 
 -- The list of cuts goes on with cuts of the set, and that of merges with their merges: each cut with a left part from m to

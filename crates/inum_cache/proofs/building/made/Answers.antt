@@ -13,7 +13,7 @@ returns c =
     let templates = c.in_ok-templates.templates in
     let are = c.in_ok-choices.ensures in
     let made = c.in_ok-templates.ensures in
-    let plain = plain-is-in c.args.alloc task templates made.enough in
+    let plain = plain-is-in task templates made.enough in
     record {
       slots = are.count;
       orders = are.each;

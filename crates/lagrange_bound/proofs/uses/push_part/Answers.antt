@@ -1,7 +1,7 @@
 use Rattle.std.proofs.Common.{◌∙◌, ◌+◌, ◌*◌, ◌==◌, ℕ, drop, ap, arith}
 use Rattle.std.specs.Prelude.{if◌then◌else◌, slice_index_or}
 use Rattle.std.proofs.Math.Nat.{mul-add}
-use Rattle.lagrange_bound.specs.inner.Listed.{owned_rents}
+use Rattle.lagrange_bound.specs.inner.CostsByLists.{owned_rents}
 use Rattle.lagrange_bound.proofs.FlatSlots.{owned-next}
 use Rattle.lagrange_bound.proofs.uses.push_part.Goals as goal
 

@@ -2,7 +2,7 @@ use Rattle.std.proofs.Common.{◌≡◌, ℕ, ◌+◌, ◌*◌, ◌<◌, ◌≤�
 use Rattle.std.specs.Prelude.{slice_index_or}
 use Rattle.adv_base.specs.declared.limits.TheConstants.{MOST_CANDIDATES}
 use Rattle.lagrange_bound.specs.CandidateUses.{weighted_rents}
-use Rattle.lagrange_bound.specs.inner.Listed.{owned_rents}
+use Rattle.lagrange_bound.specs.inner.CostsByLists.{owned_rents}
 use Rattle.lagrange_bound.proofs.uses.push_part.Given as goal
 
 abbrev pub invariant-loop-i : goal.invariant-loop-i

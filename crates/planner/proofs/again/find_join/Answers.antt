@@ -1,6 +1,6 @@
 use Rattle.std.proofs.Common.{ℕ, ◌<◌, length, below_more, ap, subst, ◌∙◌, arith}
 use Rattle.std.proofs.lemmas.List.{get_or_default}
-use Rattle.planner.specs.declared.cut.Cut.{Cut}
+use Rattle.planner.specs.declared.cuts.Cut.{Cut}
 use Rattle.planner.specs.Cells.{row_of}
 use Rattle.planner.specs.Cuts.{cut_at, no_cut}
 use Rattle.planner.specs.Rows.{width, cuts_of, IsCutBy}

@@ -1,6 +1,6 @@
 use Rattle.std.proofs.Common.{◌≡◌, ℕ, ◌+◌, ◌<◌, length, None, slice_index_or, below_more, subst, arith}
 use Rattle.std.proofs.lemmas.List.{get_or_default}
-use Rattle.planner.specs.declared.cut.Merge.{Merge}
+use Rattle.planner.specs.declared.cuts.Merge.{Merge}
 use Rattle.planner.specs.Fronts.{longer_front}
 use Rattle.planner.specs.Cells.{any_at, cell_at, cost_at}
 use Rattle.planner.specs.inner.Steps.{merged}

@@ -7,10 +7,9 @@ use Rattle.std.proofs.lemmas.Option.{slice_get_within}
 use Rattle.inum_cache.specs.Caches.{orders_of}
 use Rattle.inum_cache.specs.Templates.{AreInOrder}
 use Rattle.bip_model.specs.Limits.Parts.{TemplateLimits}
-use Rattle.bip_model.specs.StandsFor.{SomeAsksNothing}
 use Rattle.adv_base.specs.Settings.{the_setting}
 use Rattle.programme_parts.specs.Kept.{AsksNothingPast, HasAllPlaces}
-use Rattle.programme_parts.proofs.SlotParts.{asks-nothing, asks-past, template-limits, slot-part}
+use Rattle.programme_parts.proofs.SlotParts.{asks-past, template-limits, slot-part}
 use Rattle.programme_parts.proofs.parts.part.Goals as goal
 
 pub invariant_of-result : goal.invariant_of-result
@@ -52,9 +51,6 @@ returns-clause-part_is c =
       task = task;
       task_is = cached.task_is;
       decompose = subst (Decompose task) (sym c.in_ok-templates.ensures) (kept-list-decompose task cache.templates cached.cache_is.kept);
-      some_plan =
-          subst (SomeAsksNothing (length c.in_ok-slots.slots)) (sym c.in_ok-templates.ensures)
-          (asks-nothing task cache (length c.in_ok-slots.slots) (omega (arith, c.in_ok-slots.ensures.count, cached.task_is.slots_are)) cached.cache_is);
       slots_count = c.in_ok-slots.ensures.count;
       slots_are = λ s slot own found own_found.
           let within = slice_get_within block.slots s slot found in

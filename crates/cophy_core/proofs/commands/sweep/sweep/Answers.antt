@@ -3,7 +3,7 @@ use Rattle.std.specs.Prelude.{Some, slice_get}
 use Rattle.std.proofs.Math.Nat.{mul-le-mul_left}
 use Rattle.std.proofs.lemmas.Option.{slice_get_within}
 use Rattle.adv_base.specs.Settings.{the_setting}
-use Rattle.adv_base.specs.declared.limits.TheConstants.{MOST_ROWS}
+use Rattle.adv_base.specs.declared.limits.TheConstants.{MOST_PAGES}
 use Rattle.bip_model.specs.Best.{sets_in}
 use Rattle.bip_model.specs.Proves.{free_node}
 use Rattle.bip_model.specs.Trees.{ByFit}
@@ -27,7 +27,7 @@ certified-requires-clause-limits c = λ i point found.
     let within = slice_get_within points i point here in
     let few : i ≤ c.args.count - 1 = omega (arith, within, curve.counted) in
     let steps = mul-le-mul_left c.args.step few in
-    let most : point.budget ≤ MOST_ROWS = omega (arith, own.budget_is, steps, c.requires.last) in
+    let most : point.budget ≤ MOST_PAGES = omega (arith, own.budget_is, steps, c.requires.last) in
     c.best_answers_keep_limits.ensures setting c.in_ok-programme.programme point.budget c.args.nodes free_node point.answer limits stands most c.requires.nodes own.answer_is
 
 pub certified-requires-clause-order : goal.certified-requires-clause-order

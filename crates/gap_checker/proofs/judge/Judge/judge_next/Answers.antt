@@ -24,8 +24,8 @@ returns-clause-walk c =
     let at = c.next_start-at.result in
     let rest = c.next_start-at.new.starts.items in
     let starts : kept.starts_of c.args.starts.now.items ≡ node_of at ∷ kept.starts_of rest = ap kept.starts_of c.next_start-at.ensures ∙ starts-put rest at in
-    subst (judges.GoesOn judge (kept.starts_of c.args.starts.now.items) c.args.node) (sym c.in_ok-keep_sides.ensures)
-    (subst (λ (old : List nodes.Node). judges.GoesOn judge old c.args.node (sides (node_of at) c.args.node (kept.starts_of rest))) (sym starts)
+    subst (judges.WalksOn judge (kept.starts_of c.args.starts.now.items) c.args.node) (sym c.in_ok-keep_sides.ensures)
+    (subst (λ (old : List nodes.Node). judges.WalksOn judge old c.args.node (sides (node_of at) c.args.node (kept.starts_of rest))) (sym starts)
     (walk-step judge (node_of at) (kept.starts_of rest) c.args.node c.in_ok-judge_node.ensures.right))
 
 pub returns-in_err-judge_node-clause-fault : goal.returns-in_err-judge_node-clause-fault

@@ -4,7 +4,7 @@ use Rattle.bip_model.specs.declared.fix.Fix.{Fix}
 use Rattle.certificate.specs.Limits.{NodeLimits}
 use Rattle.gap_checker.specs.declared.fault.AtFault.TheVariants as at_faults
 use Rattle.gap_checker.specs.declared.tree_reader.TreeReader.{TreeReader}
-use Rattle.gap_checker.specs.inner.Judges.{GoesOn}
+use Rattle.gap_checker.specs.inner.Judges.{WalksOn}
 use Rattle.gap_checker.specs.inner.Nodes.{starts_of}
 use Rattle.gap_checker.specs.inner.Walks.{trees_after}
 use Rattle.gap_checker.proofs.Reading.{not-done, stands, line-breaks, node-fault, takes-node, whole-line, same-sets, fit-moved}
@@ -49,4 +49,4 @@ returns-clause-taken c =
     let fit = c.trees_fit.ensures.fits c.if-not-trees_fit.false in
     takes-node judge head r c.count_node.new.self c.args.node c.requires.fits undone c.requires.line c.requires.limits c.requires.more
     (fit-moved _ _ _ _ same (omega (arith, c.left-left.ensures)) fit)
-    (ap (λ (x : TreeReader). x.partial) c.count_node.ensures) (ap (λ (x : TreeReader). x.read) c.count_node.ensures) (ap (λ (x : TreeReader). x.is_done) c.count_node.ensures) (ap (λ (x : TreeReader). length x.starts.items) c.count_node.ensures ∙ c.in_ok-judge_next.ensures.count) (subst (λ (items : List Fix). GoesOn judge (starts_of r.starts.items) c.args.node (starts_of items)) (sym (ap (λ (x : TreeReader). x.starts.items) c.count_node.ensures)) c.in_ok-judge_next.ensures.walk)
+    (ap (λ (x : TreeReader). x.partial) c.count_node.ensures) (ap (λ (x : TreeReader). x.read) c.count_node.ensures) (ap (λ (x : TreeReader). x.is_done) c.count_node.ensures) (ap (λ (x : TreeReader). length x.starts.items) c.count_node.ensures ∙ c.in_ok-judge_next.ensures.count) (subst (λ (items : List Fix). WalksOn judge (starts_of r.starts.items) c.args.node (starts_of items)) (sym (ap (λ (x : TreeReader). x.starts.items) c.count_node.ensures)) c.in_ok-judge_next.ensures.walk)

@@ -1,6 +1,6 @@
 use Rattle.std.proofs.Common.{◌≡◌, ◌<◌, length, ap, ◌∙◌, subst, arith}
 use Rattle.std.proofs.lemmas.List.{get_or_default}
-use Rattle.planner.specs.declared.cut.Cut.{Cut}
+use Rattle.planner.specs.declared.cuts.Cut.{Cut}
 use Rattle.planner.specs.Cuts.{cut_at, no_cut}
 use Rattle.planner.specs.Rows.{cuts_of}
 use Rattle.planner.proofs.Tabling.{cut_is, hash_small, merge_small}

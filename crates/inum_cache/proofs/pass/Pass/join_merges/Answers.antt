@@ -1,6 +1,6 @@
 use Rattle.std.proofs.Common.{◌<◌, length, ap, ◌∙◌, subst, arith}
 use Rattle.std.proofs.lemmas.List.{get_or_default}
-use Rattle.planner.specs.declared.cut.Merge.{Merge}
+use Rattle.planner.specs.declared.cuts.Merge.{Merge}
 use Rattle.planner.specs.Cuts.{merge_at, no_merge}
 use Rattle.planner.specs.Rows.{merges_in}
 use Rattle.inum_cache.specs.inner.Cells.{Takes}

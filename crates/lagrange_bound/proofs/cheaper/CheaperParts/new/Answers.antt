@@ -6,7 +6,7 @@ use Rattle.bip_model.specs.declared.part.Part.{Part}
 use Rattle.bip_model.specs.Values.{part_grants}
 use Rattle.lagrange_bound.specs.CandidateUses.{AreAllUses}
 use Rattle.lagrange_bound.specs.ListedPrices.{slots_of}
-use Rattle.lagrange_bound.specs.inner.Listed.{AreOwners}
+use Rattle.lagrange_bound.specs.inner.CostsByLists.{AreOwners}
 use Rattle.lagrange_bound.specs.inner.Marks.{AreNoted}
 use Rattle.lagrange_bound.proofs.FlatSlots.{all-most}
 use Rattle.lagrange_bound.proofs.ListedCosts.{owners-count}

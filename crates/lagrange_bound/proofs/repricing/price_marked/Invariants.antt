@@ -1,5 +1,0 @@
-use Rattle.lagrange_bound.specs.inner.Repricing.{ArePriced}
-use Rattle.lagrange_bound.proofs.repricing.price_marked.Given as goal
-
-abbrev pub invariant-loop-place : goal.invariant-loop-place
-invariant-loop-place l = ArePriced l.task l.place l.sum l.costs
