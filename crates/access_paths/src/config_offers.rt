@@ -4,8 +4,7 @@ ghost use Rattle.adv_base.specs.OfferTables.{OfferTableLimits};
 ghost use Rattle.access_paths.specs.ConfigOffers as kept;
 
 use crate::slot_access::slot_offers;
-use crate::slot_offers::SlotOffer;
-use crate::slot_offers::SlotOffers;
+use crate::slot_offers::{SlotOffer, SlotOffers};
 use adv_base::{Block, Catalogue, Config, IndexShape, Item, NoMemory};
 use plan_model::Offers;
 use std::alloc::Global;
