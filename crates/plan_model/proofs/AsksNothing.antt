@@ -2,7 +2,6 @@
 use Rattle.std.proofs.Common.{◌≡◌, ◌≢◌, ◌∙◌, ◌⊎◌, inl, inr, ℕ, zero, suc, ◌<◌, ◌≤◌, List, [], ◌∷◌, Some, slice_get, refl, sym, ap, subst, arith}
 use Rattle.std.proofs.lemmas.Bool.{cases_lt}
 use Rattle.std.proofs.lemmas.List.{nil_from_length}
-use Rattle.adv_base.specs.declared.workload.parts.Item.{Item}
 use Rattle.adv_base.specs.Items.{Order, BeginsWith}
 use Rattle.adv_base.proofs.Begins.{begins_length}
 use Rattle.plan_model.specs.declared.plan.Whole.{Whole}
@@ -14,7 +13,7 @@ use Rattle.plan_model.specs.Costs.{whole_cost}
 use Rattle.plan_model.specs.Least.{IsCostOfPlan}
 use Rattle.plan_model.specs.Combinations.{Orders, IsCombination, free, CachedBy, needed, IsIn, Decompose, SomeAsksNothing}
 use Rattle.plan_model.proofs.Decomposing.{free-limits, free-order}
-use Rattle.plan_model.proofs.Exists.{has-plan}
+use Rattle.plan_model.proofs.Exists.{some-item, has-plan}
 
 -- ## Whether a template does is decided
 
@@ -24,9 +23,6 @@ AsksNothing task template = (slot : ℕ) → slot < task.slots → needed task t
 -- no template of a list does
 abbrev pub NoneAsksNothing : Task → List Template → Type 0
 NoneAsksNothing task templates = (number : ℕ) (template : Template) → slice_get templates number ≡ Some template → AsksNothing task template → ⊥
-
-some-item : (item : Item) (items : Order) → (item ∷ items) ≢ []
-some-item item items none = cc
 
 none-or-some : (order : Order) → (order ≡ []) ⊎ (order ≢ [])
 none-or-some [] = inl refl

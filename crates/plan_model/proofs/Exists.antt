@@ -13,6 +13,7 @@ use Rattle.std.specs.Int.{bit_at}
 use Rattle.std.specs.Int.Bits.{and_self}
 use Rattle.std.specs.Option.{option_map_or}
 use Rattle.std.proofs.lemmas.List.{get_or_past}
+use Rattle.adv_base.specs.declared.workload.parts.Item.{Item}
 use Rattle.adv_base.specs.Items.{Order, BeginsWith}
 use Rattle.adv_base.specs.Offers.{Offer, OfferTable}
 use Rattle.adv_base.specs.Sets.{all_slots, has_slot, is_crossing}
@@ -190,9 +191,12 @@ abbrev pub has_items : Order → Bool
 has_items [] = false
 has_items (item ∷ items) = true
 
+pub some-item : (item : Item) (items : Order) → (item ∷ items) ≢ []
+some-item item items none = cc
+
 by-something : (order : Order) → IsTrue (has_items order) → order ≢ []
 by-something [] sorts = absurd (false≢true sorts)
-by-something (item ∷ items) sorts none = cc
+by-something (item ∷ items) sorts = some-item item items
 
 sorts-so : (order other : Order) → BeginsWith (cond (has_items order) order other) order
 sorts-so [] other = begins_nil other
