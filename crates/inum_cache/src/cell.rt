@@ -4,9 +4,10 @@ ghost use Rattle.std.specs.List.{list_any};
 ghost use Rattle.adv_base.specs.Items.{Order};
 ghost use Rattle.inum_cache.specs.inner.Cells as cells;
 
-use crate::choices::{Choices, begins};
+use crate::choices::Choices;
 use adv_base::{List, NoMemory};
 use plan_model::Template;
+use planner::has_front;
 use std::alloc::Global;
 
 /// Whether one needs of each slot a front of what the other needs.
@@ -18,7 +19,7 @@ fn asks_no_more(choices: &Choices, one: &Template, other: &Template) -> bool
     }
     for slot in 0..choices.slots() {
         let front = choices.order(slot, one.needs[slot as usize]);
-        if !begins(choices.order(slot, other.needs[slot as usize]), front) {
+        if !has_front(choices.order(slot, other.needs[slot as usize]), front) {
             return false;
         }
     }

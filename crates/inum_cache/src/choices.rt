@@ -2,18 +2,9 @@
 ghost use Rattle.std.specs.Prelude.{◌≡◌, ℕ, ◌+◌, ◌<◌, ◌≤◌, [], length};
 ghost use Rattle.adv_base.specs.declared.limits.TheConstants.{MOST_COLUMNS, MOST_SLOTS};
 ghost use Rattle.adv_base.specs.OfferTables.{OfferLimits};
-ghost use Rattle.planner.specs.Fronts.{begins_test};
 ghost use Rattle.inum_cache.specs.Numbering as numbering;
 
 use adv_base::{Item, List};
-
-/// Whether an order begins with another.
-#[inline(always)]
-pub(crate) fn begins(order: &[Item], front: &[Item]) -> bool
-    ensures { result ≡ begins_test order.now front.now }
-{
-    order.starts_with(front)
-}
 
 /// The orders of each slot. A combination has a place among them for each slot.
 #[derive(Drop)]

@@ -8,9 +8,9 @@ ghost use Rattle.inum_cache.specs.Numbering.{order_in};
 ghost use Rattle.inum_cache.specs.inner.Pricing as pricing;
 
 use crate::cache::Cache;
-use crate::choices::begins;
 use adv_base::Item;
 use plan_model::{Offers, Template};
+use planner::has_front;
 
 /// Stands for the price of an order that isn't offered; it is above every cost.
 pub(crate) const UNOFFERED: u128 = 1_000_000_000_000_000_000_000_000_000_000;
@@ -23,7 +23,7 @@ fn lowered<O: Offers>(offers: &O, slot: u8, order: &[Item], offer: u32, best: u1
     ensures { result ≡ pricing.lower best (pricing.offer_price (O.table offers.now) slot order.now offer) }
 {
     let price = offers.price(slot, offer) as u128;
-    if price < best && begins(offers.order(slot, offer), order) {
+    if price < best && has_front(offers.order(slot, offer), order) {
         price
     } else {
         best
@@ -45,7 +45,7 @@ fn best_price<O: Offers>(offers: &O, slot: u8, order: &[Item]) -> u128
 
 /// For each slot its least price for any order, and a place with the least price of the order there.
 #[derive(Clone, Copy)]
-pub(crate) struct Known {
+pub(crate) struct KnownPrices {
     pub least: [u128; 8],
     pub places: [u8; 8],
     pub prices: [u128; 8],
@@ -54,14 +54,14 @@ pub(crate) struct Known {
 impl Cache {
     /// The least price of each slot, for any order.
     #[inline(always)]
-    fn least_prices<O: Offers>(&self, offers: &O) -> Known
+    fn known_prices<O: Offers>(&self, offers: &O) -> KnownPrices
         ensures { pricing.AreKnown (O.table offers.now) self.now.choices.orders result }
     {
         let mut least = [0; 8];
         for slot in 0..self.choices.slots() {
             least[slot as usize] = best_price(offers, slot, &[]);
         }
-        Known {
+        KnownPrices {
             least,
             places: [0; 8],
             prices: least,
@@ -70,7 +70,7 @@ impl Cache {
 
     /// The least price at which a slot gives the order at a place, which is then known.
     #[inline(always)]
-    fn price<O: Offers>(&self, offers: &O, known: &mut Known, slot: u8, place: u8) -> u128
+    fn price<O: Offers>(&self, offers: &O, known: &mut KnownPrices, slot: u8, place: u8) -> u128
         requires slot { slot < length self.now.choices.orders }
         requires known { pricing.AreKnown (O.table offers.now) self.now.choices.orders known.old }
         ensures exact { result ≡ pricing.best_price (O.table offers.now) slot (order_in self.now.choices.orders slot place) }
@@ -94,7 +94,7 @@ impl Cache {
     fn lowered_by<O: Offers>(
         &self,
         offers: &O,
-        known: &mut Known,
+        known: &mut KnownPrices,
         template: &Template,
         least: u128,
     ) -> u128
@@ -123,7 +123,7 @@ impl Cache {
         ensures least { (task : Task) → IsCacheOf task self.now → Least task (O.table offers.now) result }
     {
         offers.limits();
-        let mut known = self.least_prices(offers);
+        let mut known = self.known_prices(offers);
         let templates = self.templates.as_slice();
         let mut least = UNOFFERED;
         for k in 0..templates.len() {

@@ -86,10 +86,11 @@ pub(crate) fn side(link: &Link, set: usize) -> usize
 }
 
 /// Whether an order begins with another.
+#[inline(always)]
 pub fn has_front(order: &[Item], list: &[Item]) -> bool
     ensures { result ≡ order_fronts.begins_test order.now list.now }
 {
-    begins_with(order, list)
+    order.starts_with(list)
 }
 
 /// Whether an order begins as a front asks; `list` is what `Listed` stands for.

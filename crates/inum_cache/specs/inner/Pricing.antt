@@ -7,7 +7,7 @@ use Rattle.adv_base.specs.OfferTables.{price_at, order_at}
 use Rattle.plan_model.specs.Exchange.{sum_below}
 use Rattle.plan_model.specs.declared.template.Template.{Template}
 use Rattle.planner.specs.Fronts.{begins_test}
-use Rattle.inum_cache.specs.declared.lookup.Known.{Known}
+use Rattle.inum_cache.specs.declared.lookup.KnownPrices.{KnownPrices}
 use Rattle.inum_cache.specs.declared.lookup.TheConstants.{UNOFFERED}
 use Rattle.inum_cache.specs.Numbering.{order_in}
 
@@ -50,6 +50,6 @@ AreLeast table n orders prices =
     (slot : ℕ) → slot < n → (slice_index_or prices slot 0 ≡ best_price table slot (orders slot)) × (slice_index_or prices slot 0 ≤ UNOFFERED)
 
 -- what is known of prices is so
-pub record AreKnown (table : OfferTable) (orders : List (List Order)) (known : Known) : Type 0 where
+pub record AreKnown (table : OfferTable) (orders : List (List Order)) (known : KnownPrices) : Type 0 where
   pub least : AreLeast table (length orders) (λ slot. []) known.least
   pub own : AreLeast table (length orders) (λ slot. order_in orders slot (slice_index_or known.places slot 0)) known.prices

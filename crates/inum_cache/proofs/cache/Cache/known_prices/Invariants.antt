@@ -1,6 +1,6 @@
 use Rattle.std.proofs.Common.{◌≡◌, [], length}
 use Rattle.inum_cache.specs.inner.Pricing.{AreLeast}
-use Rattle.inum_cache.proofs.cache.Cache.least_prices.Given as goal
+use Rattle.inum_cache.proofs.cache.Cache.known_prices.Given as goal
 
 abbrev pub invariant-loop-slot : goal.invariant-loop-slot
 invariant-loop-slot g l =
