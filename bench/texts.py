@@ -175,13 +175,13 @@ def show(name, size, mib, run, beside="", peak=""):
     print_row(cells, WIDTHS)
 
 
-def catalogues(options, folder, sizes, name, make, where):
+def catalogues(options, folder, sizes, name, make, where=""):
     """The cost of one statement over catalogues of each size."""
     workload = put(folder, "one.sql", f"SELECT column_1 FROM t {where}ORDER BY column_2\n")
     for size in sizes:
         text = make(size * MIB)
         catalogue = put(folder, "c.toml", text)
-        run = cost(options, catalogue, workload, f"a catalogue of {size} MiB, {name}")
+        run = cost(options, catalogue, workload, f"{name} of {size} MiB")
         beside = tomllib_run(options, catalogue)
         show(name, size, len(text) / MIB, run, f"{beside.seconds:.3f}", f"{beside.peak_mib:.1f}")
 
@@ -199,7 +199,7 @@ def main():
         run = cost(options, small_catalogue, small_workload, "small files")
         print_row(("files", "MiB", "seconds", "MiB/s", "peak MiB", "beside", "its peak"), WIDTHS)
         print_row(("small", "", f"{run.seconds:.3f}", "", f"{run.peak_mib:.1f}", "", ""), WIDTHS)
-        catalogues(options, folder, sizes, "catalogue", make_catalogue, "")
+        catalogues(options, folder, sizes, "catalogue", make_catalogue)
         catalogues(options, folder, sizes, "bounds", make_bounded, "WHERE column_2 < 100000 ")
         bounded_catalogue = put(folder, "bounded.toml", small_bounded())
         for size in sizes:

@@ -77,7 +77,7 @@ class Setup(InFolder):
 
 class Clusters(unittest.TestCase):
     def test_running_clusters_of_other_ports_are_listed(self) -> None:
-        from cophy_pg.clusters import clusters
+        from cophy_pg.no_connection import clusters
 
         listed = "14 old 5432 online postgres /a /b\n15 main 5433 online,recovery postgres /a /b\n16 new 5434 down postgres /a /b\n"
         self.assertEqual(clusters(listed, "5432"), ["    the cluster 15/main runs: export PGPORT=5433"])

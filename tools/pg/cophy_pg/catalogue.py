@@ -34,6 +34,8 @@ def _toml(value: object) -> str:
         return f"[{', '.join(map(_toml, value))}]"
     if isinstance(value, bool):
         return str(value).lower()
+    if isinstance(value, float):
+        return f"{value:.6f}"
     return toml_text(value) if isinstance(value, str) else str(value)
 
 

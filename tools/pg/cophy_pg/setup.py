@@ -16,7 +16,7 @@ from pathlib import Path
 
 from cophy_text import files
 from cophy_text.answers import counted
-from cophy_pg.clusters import failed
+from cophy_pg.no_connection import failed
 from cophy_pg.picks import home_of
 from cophy_pg.inputs import EXTENSION, NoInput, tell_short
 from cophy_pg.progress import say

@@ -1,4 +1,4 @@
-"""Why a superuser's psql found no database, and what there is instead."""
+"""Why a superuser's psql could not connect, and which databases and servers there are instead."""
 from __future__ import annotations
 
 import re
