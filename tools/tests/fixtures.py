@@ -90,6 +90,13 @@ class InFolder(unittest.TestCase):
         (self.folder / name).chmod(0o755)
         return str(self.folder / name)
 
+    def lay_advice(self, picks: Iterable[str]) -> str:
+        """Lays an advice of these picks into the folder."""
+        lines = "".join(f"pick {at} {it} 3 pages\n" for at, it in enumerate(picks, 1))
+        end = "size 9\ncost 9\nbound 9\ngap 0\nnodes 1 of 9\nfinished\n"
+        (self.folder / "advice").write_text(f"budget 99\ncandidates 9 left over 0\n{lines}{end}")
+        return str(self.folder / "advice")
+
 
 class OverShop(InFolder):
     """Such tests over the database `shop`, of which the advisor's role asks."""
@@ -122,13 +129,6 @@ class OverOwn(OverShop):
         cls.server.psql(f"CREATE DATABASE {cls.database}")
         cls.addClassCleanup(cls.server.psql, f"DROP DATABASE {cls.database}")
         cls.server.psql(cls.content + ADVISOR.read_text(), cls.database)
-
-    def lay_advice(self, picks: Iterable[str]) -> str:
-        """Lays an advice of these picks into the folder."""
-        lines = "".join(f"pick {at} {it} 3 pages\n" for at, it in enumerate(picks, 1))
-        end = "size 9\ncost 9\nbound 9\ngap 0\nnodes 1 of 9\nfinished\n"
-        (self.folder / "advice").write_text(f"budget 99\ncandidates 9 left over 0\n{lines}{end}")
-        return str(self.folder / "advice")
 
     def run_script(self, text: str, *more: str, status: int = 0, **environment: str) -> str:
         """What psql says of a script."""

@@ -101,12 +101,13 @@ class PrivateServer:
         kept = {it: value for it, value in os.environ.items() if not it.startswith("PG")}
         return {**kept, "PGHOST": str(self.folder), "PGUSER": "cophy", "PGDATABASE": database, **more}
 
-    def psql(self, text: str, database: str = "postgres", check: bool = True) -> subprocess.CompletedProcess[str]:
-        """Runs a script of SQL."""
+    def psql(
+        self, text: str, database: str = "postgres", check: bool = True, **more: str
+    ) -> subprocess.CompletedProcess[str]:
+        """Runs a script of SQL; `more` are variables of its environment."""
         words = [str(program("psql")), "-X", "-q", "-A", "-t", "-v", "ON_ERROR_STOP=1"]
-        ran = subprocess.run(
-            words, input=text, text=True, capture_output=True, env=self.environment(database), check=False, timeout=LONG
-        )
+        given = self.environment(database, **more)
+        ran = subprocess.run(words, input=text, text=True, capture_output=True, env=given, check=False, timeout=LONG)
         if check and ran.returncode:
             raise RuntimeError(f"psql: {ran.stderr}")
         return ran
