@@ -3,6 +3,7 @@ from __future__ import annotations
 
 import atexit
 import functools
+import importlib.util
 import os
 import subprocess
 import tempfile
@@ -21,6 +22,7 @@ DATA = HERE / "data"
 ADVISOR = ROOT / "tools" / "pg" / "advisor_role.sql"
 COPHY = Path(os.environ.get("COPHY_PROGRAM") or ROOT / "crates" / "cophy_cli" / "out" / "cophy_cli")
 STAND_IN = HERE / "stand_in.py"
+NO_PARSER = "" if importlib.util.find_spec("pglast") else "python3-pglast isn't installed"
 MISSING = missing()
 NO_HYPOPG = MISSING or ("" if has_extension("hypopg") else "postgresql-15-hypopg isn't installed")
 

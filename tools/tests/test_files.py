@@ -1,7 +1,6 @@
 """What `cophy-pg` writes: whole or not at all, for its owner alone, and never one file over another."""
 from __future__ import annotations
 
-import importlib.util
 import os
 import signal
 import stat
@@ -12,27 +11,14 @@ import time
 import unittest
 from pathlib import Path
 
-from fixtures import InFolder
+from example_tables import ADVICE, CATALOGUE
+from fixtures import NO_PARSER, TOOL, InFolder
 from patience import LONG
 
-TOOL = Path(__file__).resolve().parents[2] / "tools" / "pg" / "cophy-pg"
-CATALOGUE = """version = 1
-[[table]]
-name = "t"
-rows = 1000
-pages = 20
-[[table.column]]
-name = "a"
-kind = "int"
-width = 4
-"""
 MARKER = "marker"
-ADVICE = (
-    "budget 9\ncandidates 1 left over 0\npick 1 t(a) 3 pages\nsize 3\ncost 1\nbound 1\ngap 0\nnodes 1 of 2\nfinished\n"
-)
 
 
-@unittest.skipIf(importlib.util.find_spec("pglast") is None, "python3-pglast isn't installed")
+@unittest.skipIf(NO_PARSER, NO_PARSER)
 class Written(InFolder):
     def setUp(self) -> None:
         super().setUp()
@@ -212,7 +198,7 @@ class Written(InFolder):
                     self.assertNotIn("cophy_pg", said)
 
 
-@unittest.skipIf(importlib.util.find_spec("pglast") is None, "python3-pglast isn't installed")
+@unittest.skipIf(NO_PARSER, NO_PARSER)
 class Module(unittest.TestCase):
     def test_of_several_files_all_are_put_in_place_or_none(self) -> None:
         from cophy_text import files

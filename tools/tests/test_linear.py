@@ -2,7 +2,6 @@
 from __future__ import annotations
 
 import contextlib
-import importlib.util
 import random
 import subprocess
 import tempfile
@@ -12,11 +11,13 @@ from collections.abc import Callable
 from pathlib import Path
 from unittest import mock
 
-from fixtures import TOOL
+from example_tables import CATALOGUE, two_schemas
+from fixtures import NO_PARSER, TOOL
 from patience import LONG
-from test_files import CATALOGUE
 
-HAS_PARSER = importlib.util.find_spec("pglast") is not None
+if not NO_PARSER:
+    from cophy_pg.rewrite import Options, Rewriter, rewriter
+
 # Statements of MySQL and of an attacker, many of which stand one after another.
 LINES = {
     "a quote behind a backslash": "INSERT INTO `t` VALUES (1,'it\\'s; a \\\"test\\\"','x');\n",
@@ -58,7 +59,7 @@ def seconds(work: Callable[[str], object], text: str) -> float:
     return min(times)
 
 
-@unittest.skipUnless(HAS_PARSER, "python3-pglast isn't installed")
+@unittest.skipIf(NO_PARSER, NO_PARSER)
 class Linear(unittest.TestCase):
     def test_the_parser_gets_each_byte_a_few_times(self) -> None:
         from cophy_pg import inputs
@@ -113,9 +114,37 @@ class Linear(unittest.TestCase):
             self.assertRegex(ran.stderr, rf"{len(listed) + 1} statements, written as 1\n")
             self.assertIn("it nests too deep", ran.stderr)
 
+    def test_what_nests_too_deep_is_told(self) -> None:
+        deep = {
+            "paren": "SELECT a FROM t WHERE a = " + "(" * 5000 + "1" + ")" * 5000,
+            "sum": "SELECT " + "a + " * 30000 + "1 FROM t",
+            "call": "SELECT " + "f(" * 4000 + "a" + ")" * 4000 + " FROM t",
+            "not": "SELECT a FROM t WHERE " + "NOT " * 9000 + "a = 1",
+            "cast": "SELECT a" + "::int" * 30000 + " FROM t",
+            "operator": "SELECT a" + " OPERATOR(pg_catalog.+) a" * 30000 + " FROM t",
+            "zone": "SELECT a" + " AT TIME ZONE 'x'" * 9000 + " FROM t",
+            "element": "SELECT a" + "[1]" * 9000 + " FROM t",
+            "case": "SELECT " + "CASE WHEN a = 1 THEN " * 3000 + "1" + " END" * 3000 + " FROM t",
+            "union": " UNION ".join(["SELECT a FROM t"] * 9000),
+            "sides": "SELECT a FROM t WHERE a = 1" + " AND (a = 2 OR a = 3" * 4000 + ")" * 4000,
+            "sources": "SELECT 1 FROM " + "(SELECT * FROM " * 3000 + "t" + ") x" * 3000,
+        }
+        for name, text in deep.items():
+            with self.subTest(name=name):
+                self.assertEqual(Rewriter(two_schemas()).rewrite(text).skipped, "it nests too deep")
+        joined = "SELECT t.a FROM t " + " ".join(f"JOIN t t{it} ON t.a = t{it}.a" for it in range(100))
+        self.assertEqual(Rewriter(two_schemas()).rewrite(joined).skipped, "it has more than 64 sources")
+
+    def test_what_is_long_but_flat_is_taken(self) -> None:
+        for text in (
+            "SELECT a FROM t WHERE " + " AND ".join(["a = 1"] * 3000),
+            "SELECT a FROM t WHERE a IN (" + ", ".join(["-1"] * 5000) + ")",
+            "INSERT INTO t VALUES " + ", ".join(["(1, -2)"] * 5000),
+        ):
+            self.assertEqual(Rewriter(two_schemas()).rewrite(text).skipped, "")
+
     def test_views_that_double_at_each_level_are_left_out(self) -> None:
         from cophy_pg.catalogue import read_schema
-        from cophy_pg.rewrite import Options, Rewriter, rewriter
 
         schema = read_schema(CATALOGUE.encode())
         views = {("public", "v0"): "SELECT a, a AS b FROM t", ("public", "w0"): "SELECT a, a AS b FROM t"}

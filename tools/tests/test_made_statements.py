@@ -1,7 +1,6 @@
 """Statements that are made at random, over all forms at once: each is written so that the program takes it, or skipped."""
 from __future__ import annotations
 
-import importlib.util
 import os
 import random
 import re
@@ -10,15 +9,14 @@ import tempfile
 import unittest
 from pathlib import Path
 
+from example_tables import schema
+from fixtures import COPHY, NO_PARSER
 from grammar import accepted
 from patience import LONG
 
-HAS_PARSER = importlib.util.find_spec("pglast") is not None
-if HAS_PARSER:
+if not NO_PARSER:
     from cophy_pg.catalogue import catalogue_text
     from cophy_pg.rewrite import Options, Rewriter
-    from fixtures import COPHY
-    from test_rewrite import schema
 
 COLUMNS = {
     "a": ["id", "k", "n", "d", "x", "y", '"on"', "j"],
@@ -247,7 +245,7 @@ class Maker:
         return self.select(2)[0]
 
 
-@unittest.skipUnless(HAS_PARSER, "python3-pglast isn't installed")
+@unittest.skipIf(NO_PARSER, NO_PARSER)
 class Made(unittest.TestCase):
     def test_all_that_is_written_is_accepted(self) -> None:
         tables = {it.shown: [column.shown for column in it.columns.values()] for it in schema().tables.values()}
@@ -269,9 +267,7 @@ class Made(unittest.TestCase):
         ]
         self.assertEqual(unknown, [], [skipped[it] for it in unknown])
 
-    @unittest.skipUnless(
-        os.access(COPHY, os.X_OK) if HAS_PARSER else False, "the program isn't built: run rt ci, or set COPHY_PROGRAM"
-    )
+    @unittest.skipUnless(os.access(COPHY, os.X_OK), "the program isn't built: run rt ci, or set COPHY_PROGRAM")
     def test_the_program_accepts_what_is_written(self) -> None:
         maker, written = Maker(11), []
         for _ in range(300):

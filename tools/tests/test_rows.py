@@ -6,10 +6,10 @@ import tempfile
 import unittest
 from pathlib import Path
 
-from fixtures import MISSING, STAND_IN, called, shop
-from test_rewrite import HAS_PARSER, PLAIN, schema
+from example_tables import PLAIN, schema
+from fixtures import MISSING, NO_PARSER, STAND_IN, called, shop
 
-if HAS_PARSER:
+if not NO_PARSER:
     from cophy_pg.bounds import at_share, share
     from cophy_pg.catalogue import catalogue_text, read_schema
     from cophy_pg.inputs import Input
@@ -21,7 +21,7 @@ if HAS_PARSER:
     from cophy_pg.workload import made
 
 
-@unittest.skipUnless(HAS_PARSER, "python3-pglast isn't installed")
+@unittest.skipIf(NO_PARSER, NO_PARSER)
 class Rows(unittest.TestCase):
     """Of table a, which has 100000 rows, 100 values a column, ints from 0 to 10000 and days from 1990-01-01."""
 
