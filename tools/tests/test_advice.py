@@ -1,7 +1,6 @@
 """`cophy-pg ddl`, `verify`, `why` and `curve` on stored answers of the program, the first two against a server."""
 from __future__ import annotations
 
-import importlib.util
 import json
 import re
 import tomllib
@@ -9,7 +8,7 @@ import unittest
 from pathlib import Path
 
 from cophy_text import answers
-from fixtures import ADVISOR, MISSING, InFolder, OverShop, called
+from fixtures import ADVISOR, MISSING, NO_PARSER, InFolder, OverShop, called
 from private_server import has_extension
 
 ADVICE = """budget 3000
@@ -68,10 +67,7 @@ class Texts(unittest.TestCase):
                     self.assertRaises(answers.NoAnswer, read, text)
 
 
-@unittest.skipIf(
-    importlib.util.find_spec("pglast") is None or not Path("/usr/bin/python3").exists(),
-    "python3-pglast isn't installed",
-)
+@unittest.skipUnless(not NO_PARSER and Path("/usr/bin/python3").exists(), "python3-pglast isn't installed")
 class Programs(InFolder):
     """`why` and `curve`, over a program that is a script."""
 

@@ -1,13 +1,12 @@
 """Candidates that the server's planner takes in the space that is left."""
 from __future__ import annotations
 
-import importlib.util
 import unittest
 
 from cophy_text.answers import Advice, Candidate
+from fixtures import NO_PARSER
 
-HAS_PARSER = importlib.util.find_spec("pglast") is not None
-if HAS_PARSER:
+if not NO_PARSER:
     from test_exchange import Made
 
     from cophy_pg.beside import Beside, shares
@@ -17,7 +16,7 @@ if HAS_PARSER:
     from cophy_pg.outcomes import Verdict
 
 
-@unittest.skipUnless(HAS_PARSER, "python3-pglast isn't installed")
+@unittest.skipIf(NO_PARSER, NO_PARSER)
 class Steps(unittest.TestCase):
     """Candidates 1 to 6, of which our model knows nothing but that 6 costs much where rows are written."""
 

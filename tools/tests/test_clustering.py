@@ -1,7 +1,6 @@
 """Clustered picks in the tools' texts: what the program prints, DDL, `why`, `curve`, rules, lint and hints, without a server."""
 from __future__ import annotations
 
-import importlib.util
 import json
 import unittest
 from unittest import mock
@@ -10,9 +9,8 @@ from cophy_lint.checks import Warning, catalogue_remarks
 from cophy_lint.rules import rules_remarks
 from cophy_text import answers
 from cophy_wrapper import hints
-from fixtures import STAND_IN, InFolder
+from fixtures import NO_PARSER, STAND_IN, InFolder
 
-HAS_PARSER = importlib.util.find_spec("pglast") is not None
 # The text for a table that may be clustered and has no index, over `SELECT * FROM t ORDER BY c`.
 ADVICE = """budget 3
 candidates 3 left over 0
@@ -62,7 +60,7 @@ class Texts(unittest.TestCase):
                 self.assertRaises(answers.NoAnswer, answers.read_advice, ADVICE.replace("t(c) clustered 3", line))
 
 
-@unittest.skipUnless(HAS_PARSER, "python3-pglast isn't installed")
+@unittest.skipIf(NO_PARSER, NO_PARSER)
 class Statements(InFolder):
     """`ddl` over catalogues that were made by hand."""
 
@@ -165,7 +163,7 @@ class Statements(InFolder):
             self.assertIn(f"ALTER TABLE {path} SET WITHOUT CLUSTER;", self.ddl(catalogue + more, "--script"))
 
 
-@unittest.skipUnless(HAS_PARSER, "python3-pglast isn't installed")
+@unittest.skipIf(NO_PARSER, NO_PARSER)
 class Commands(InFolder):
     """`why`, `curve` and `rules` over a stand-in for the program."""
 
@@ -247,7 +245,7 @@ class Remarks(unittest.TestCase):
         self.assertIn("where its table has may_cluster, of version 2", said)
 
 
-@unittest.skipUnless(HAS_PARSER, "python3-pglast isn't installed")
+@unittest.skipIf(NO_PARSER, NO_PARSER)
 class Documents(unittest.TestCase):
     """Picks in the documents of `advise`."""
 

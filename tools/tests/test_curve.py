@@ -8,11 +8,10 @@ import unittest
 from pathlib import Path
 
 from cophy_text.answers import Advice, Candidate
-from fixtures import STAND_IN, InFolder
+from fixtures import NO_PARSER, STAND_IN, InFolder
 
-HAS_PARSER = importlib.util.find_spec("pglast") is not None
 HAS_MATPLOTLIB = importlib.util.find_spec("matplotlib") is not None
-if HAS_PARSER:
+if not NO_PARSER:
     from cophy_pg.curve import Search, _database, between
     from cophy_pg.curves import Point, bound_steps, cost_steps
     from cophy_pg.drawing import _lines, _scales
@@ -43,7 +42,7 @@ def best(budget: int) -> int:
     return cost
 
 
-@unittest.skipUnless(HAS_PARSER, "python3-pglast isn't installed")
+@unittest.skipIf(NO_PARSER, NO_PARSER)
 class Lines(unittest.TestCase):
     """What the lines say is true between the points too."""
 
@@ -131,7 +130,7 @@ class Lines(unittest.TestCase):
         self.assertIsNone(between([advice(0, 0, 900), advice(100, 1, 100), advice(300, 1, 100)]))
 
 
-@unittest.skipUnless(HAS_PARSER and Path("/usr/bin/python3").exists(), "python3-pglast isn't installed")
+@unittest.skipUnless(not NO_PARSER and Path("/usr/bin/python3").exists(), "python3-pglast isn't installed")
 class Command(InFolder):
     def setUp(self) -> None:
         super().setUp()

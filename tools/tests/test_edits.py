@@ -1,7 +1,6 @@
 """`cophy-pg edits`: beside a plain model of edits over drawn workloads, and a search for the fewest over all small ones."""
 from __future__ import annotations
 
-import importlib.util
 import os
 import pty
 import random
@@ -13,11 +12,10 @@ from itertools import combinations_with_replacement
 from cophy_text.edits import Edit, edits_in, read_edit
 from cophy_text.workloads import NoWorkload, Statement, read_statements
 from edits_model import FORMS, applied, drawn, fewest, plain, written
-from fixtures import TOOL, InFolder
+from fixtures import NO_PARSER, TOOL, InFolder
 from patience import LONG
 
-HAS_PARSER = importlib.util.find_spec("pglast") is not None
-if HAS_PARSER:
+if not NO_PARSER:
     from cophy_pg.edits import AFRESH, between
 
 
@@ -111,7 +109,7 @@ class Reading(unittest.TestCase):
             self.assertFalse([why for _, _, why in edits_in(text.encode()) if isinstance(why, str)])
 
 
-@unittest.skipUnless(HAS_PARSER, "python3-pglast isn't installed")
+@unittest.skipIf(NO_PARSER, NO_PARSER)
 class Fewest(unittest.TestCase):
     def test_edits_lead_from_any_workload_to_any_other(self) -> None:
         draw = random.Random(2)
@@ -155,7 +153,7 @@ class Fewest(unittest.TestCase):
         self.assertEqual(text.count(b"\n"), fewest(old, new))
 
 
-@unittest.skipUnless(HAS_PARSER, "python3-pglast isn't installed")
+@unittest.skipIf(NO_PARSER, NO_PARSER)
 class Command(InFolder):
     def call(
         self, old: str, new: str, *words: str, given: str | None = None, status: int = 0

@@ -1,7 +1,6 @@
 """The exchange of picks for others that cost less in the same space as PostgreSQL stores them."""
 from __future__ import annotations
 
-import importlib.util
 import random
 import sys
 import unittest
@@ -9,10 +8,9 @@ from collections.abc import Sequence
 from pathlib import Path
 
 from cophy_text.answers import Candidate
-from fixtures import COPHY, ROOT, STAND_IN, InFolder
+from fixtures import COPHY, NO_PARSER, ROOT, STAND_IN, InFolder
 
-HAS_PARSER = importlib.util.find_spec("pglast") is not None
-if HAS_PARSER:
+if not NO_PARSER:
     from cophy_pg import folder
     from cophy_pg.budget import filled, room_in
     from cophy_pg.catalogue import read_schema
@@ -46,7 +44,7 @@ def clash(chosen: frozenset[int], clustered: dict[int, str]) -> bool:
     return len(tables) > len({*tables})
 
 
-@unittest.skipUnless(HAS_PARSER, "python3-pglast isn't installed")
+@unittest.skipIf(NO_PARSER, NO_PARSER)
 class Steps(unittest.TestCase):
     def test_one_is_added_taken_away_or_put_in_the_place_of_another(self) -> None:
         prices = Made([{1: 90, 2: 60}, {3: 50}, {4: 5}], dict.fromkeys(range(1, 6), 1))
@@ -130,7 +128,7 @@ class Steps(unittest.TestCase):
             self.assertEqual([it.number for it in (*picks, clustered) if rules.speak_of(it)], numbers, line)
 
 
-@unittest.skipUnless(HAS_PARSER, "python3-pglast isn't installed")
+@unittest.skipIf(NO_PARSER, NO_PARSER)
 class OverTheStandIn(InFolder):
     """Over the stand-in, whose pages of an index have nothing to do with how PostgreSQL stores it."""
 
@@ -169,7 +167,7 @@ class OverTheStandIn(InFolder):
         self.assertEqual([len(it.picks) for it in found[:3]], [0, 1, 2])
 
 
-@unittest.skipUnless(HAS_PARSER and COPHY.exists(), "the program isn't built, or python3-pglast isn't installed")
+@unittest.skipUnless(not NO_PARSER and COPHY.exists(), "the program isn't built, or python3-pglast isn't installed")
 class OverTheProgram(InFolder):
     """Over the program and a made workload."""
 

@@ -1,18 +1,16 @@
 """Statements beyond the limits of a workload: which stand for others, and that their weight comes in."""
 from __future__ import annotations
 
-import importlib.util
 import random
 import re
 import subprocess
 import unittest
 from pathlib import Path
 
-from fixtures import STAND_IN, TOOL, InFolder
+from fixtures import NO_PARSER, STAND_IN, TOOL, InFolder
 from patience import LONG
 
-HAS_PARSER = importlib.util.find_spec("pglast") is not None
-if HAS_PARSER:
+if not NO_PARSER:
     from cophy_pg.folding import BITS, Batches, Folding
     from cophy_pg.inputs import Input
     from cophy_pg.outcomes import texts_in
@@ -43,7 +41,7 @@ CATALOGUE = 'version = 2\n[[table]]\nname = "t"\nrows = 100000\npages = 900\n' +
 )
 
 
-@unittest.skipUnless(HAS_PARSER, "python3-pglast isn't installed")
+@unittest.skipIf(NO_PARSER, NO_PARSER)
 class Alike(unittest.TestCase):
     def found(self, classes: dict[str, int]) -> tuple[dict[str, str], int]:
         batches = Counted(classes)
@@ -106,7 +104,7 @@ class Alike(unittest.TestCase):
         self.assertLessEqual(1 + sum(2**bit for bit in range(1, BITS + 1)), 10**6)
 
 
-@unittest.skipUnless(HAS_PARSER, "python3-pglast isn't installed")
+@unittest.skipIf(NO_PARSER, NO_PARSER)
 class Made(unittest.TestCase):
     """A workload of more statements than it may have, over the stand-in for the program."""
 
@@ -142,7 +140,7 @@ class Made(unittest.TestCase):
         self.assertIn("aren't folded", workload.remarks[0])
 
 
-@unittest.skipUnless(HAS_PARSER, "python3-pglast isn't installed")
+@unittest.skipIf(NO_PARSER, NO_PARSER)
 class Command(InFolder):
     def rewritten(self, program: str) -> tuple[str, str]:
         (self.folder / "c.toml").write_text(CATALOGUE)

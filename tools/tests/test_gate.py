@@ -1,7 +1,6 @@
 """The script of the merge gate, and what is typed and read beside `cophy`: the completion, the help and the manual."""
 from __future__ import annotations
 
-import importlib.util
 import os
 import re
 import shutil
@@ -10,7 +9,7 @@ import tempfile
 import unittest
 from pathlib import Path
 
-from fixtures import TOOL
+from fixtures import NO_PARSER, TOOL
 from script_copy import ROOT
 
 
@@ -97,7 +96,7 @@ class Completion(unittest.TestCase):
             with self.subTest(words=words):
                 self.assertEqual(self.completed(function, *words), wanted)
 
-    @unittest.skipUnless(importlib.util.find_spec("pglast"), "python3-pglast isn't installed")
+    @unittest.skipIf(NO_PARSER, NO_PARSER)
     def test_each_command_and_option_of_cophy_pg_is_completed(self) -> None:
         def listed(form: str, *words: str) -> list[str]:
             ran = subprocess.run([str(TOOL), *words, "--help"], stdout=subprocess.PIPE, text=True, check=True)

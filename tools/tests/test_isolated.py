@@ -13,6 +13,7 @@ import sys
 import unittest
 from pathlib import Path
 
+from fixtures import NO_PARSER
 from patience import LONG
 from script_copy import ROOT, OverCopy
 
@@ -23,7 +24,6 @@ OURS = ("cophy_text", "cophy_wrapper", "cophy_lint", "cophy_pg", "cophy_fleet", 
 STARTED = ("sitecustomize", "usercustomize", "encodings", "site", "matplotlib", "psycopg", "pglast", "numpy")
 CATALOGUE = 'version = 1\n[[table]]\nname = "t"\nrows = 1\npages = 1\nrowz = 2\n'
 HAS_CLUSTER = importlib.util.find_spec("distributed") is not None
-HAS_PARSER = importlib.util.find_spec("pglast") is not None
 
 
 def scripts() -> list[Path]:
@@ -162,7 +162,7 @@ class Isolated(OverCopy):
         ran = self.call(tool, "run", "fleet.toml", "--workers", "1", "--program", program, FAKE_STATUS="7")
         self.assertIn('"fault": "cophy fold stopped with status 7"', ran.stdout)
 
-    @unittest.skipUnless(HAS_PARSER, "python3-pglast isn't installed")
+    @unittest.skipIf(NO_PARSER, NO_PARSER)
     def test_rewriting(self) -> None:
         ran = self.call(TOOLS / "pg" / "cophy-pg", "rewrite", "c.toml", "l.sql", "out.sql")
         self.assertNotIn("Traceback", ran.stderr)

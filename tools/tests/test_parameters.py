@@ -1,10 +1,10 @@
 """The types of parameters, as what stands beside them asks for."""
 from __future__ import annotations
 
-import importlib.util
 import unittest
 
-MISSING = "" if importlib.util.find_spec("pglast") else "python3-pglast isn't installed"
+from fixtures import NO_PARSER
+
 COLUMNS = {
     "id": "int4",
     "city": "text",
@@ -38,7 +38,7 @@ ASKED = {
 }
 
 
-@unittest.skipIf(MISSING, MISSING)
+@unittest.skipIf(NO_PARSER, NO_PARSER)
 class Asked(unittest.TestCase):
     def test_each_parameter_has_the_type_that_is_asked_for(self) -> None:
         from cophy_pg.expected import Expected, known, own_name

@@ -1,18 +1,18 @@
 """The numbers of a catalogue: the unit of a column, and what literal ranges are written as over it."""
 from __future__ import annotations
 
-import importlib.util
 import unittest
 
-HAS_PARSER = importlib.util.find_spec("pglast") is not None
-if HAS_PARSER:
+from fixtures import NO_PARSER
+
+if not NO_PARSER:
     from cophy_pg.catalogue import catalogue_text, read_schema
     from cophy_pg.places import ends, place, set_scale
     from cophy_pg.rewrite import Rewriter
     from cophy_pg.schema import Column, Schema, Table
 
 
-@unittest.skipUnless(HAS_PARSER, "python3-pglast isn't installed")
+@unittest.skipIf(NO_PARSER, NO_PARSER)
 class Places(unittest.TestCase):
     def test_the_unit_of_a_column(self) -> None:
         table: list[tuple[str, list[object], int, bool]] = [

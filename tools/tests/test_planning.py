@@ -1,13 +1,12 @@
 """Picks that save less time than planning takes longer for them."""
 from __future__ import annotations
 
-import importlib.util
 import unittest
 
 from cophy_text.answers import Candidate
+from fixtures import NO_PARSER
 
-HAS_PARSER = importlib.util.find_spec("pglast") is not None
-if HAS_PARSER:
+if not NO_PARSER:
     from cophy_pg.explain import statement_of
     from cophy_pg.inputs import Input
     from cophy_pg.outcomes import Verdict
@@ -19,7 +18,7 @@ if HAS_PARSER:
 SAVED = {1: {1: 60, 2: 58}, 2: {2: 3, 4: 2}, 3: {3: 40}}
 
 
-@unittest.skipUnless(HAS_PARSER, "python3-pglast isn't installed")
+@unittest.skipIf(NO_PARSER, NO_PARSER)
 class Picks(unittest.TestCase):
     def setUp(self) -> None:
         self.asked = list[tuple[int, ...]]()

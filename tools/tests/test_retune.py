@@ -1,7 +1,6 @@
 """`retune` of the program itself, on edits that `cophy-pg edits` writes and on faulty ones; its text, taken apart."""
 from __future__ import annotations
 
-import importlib.util
 import os
 import random
 import subprocess
@@ -10,10 +9,9 @@ from unittest import mock
 
 from cophy_text.answers import NoAnswer, read_advice, read_retuned
 from edits_model import FORMS, drawn, written
-from fixtures import COPHY, ROOT, TOOL, InFolder
+from fixtures import COPHY, NO_PARSER, ROOT, TOOL, InFolder
 from patience import LONG
 
-HAS_PARSER = importlib.util.find_spec("pglast") is not None
 CATALOGUE = str(ROOT / "examples" / "shop.toml")
 
 
@@ -47,7 +45,7 @@ class Answers(unittest.TestCase):
                 with self.assertRaises(NoAnswer):
                     read_retuned(faulty)
 
-    @unittest.skipUnless(HAS_PARSER, "python3-pglast isn't installed")
+    @unittest.skipIf(NO_PARSER, NO_PARSER)
     def test_ddl_takes_the_last_advice_and_why_none(self) -> None:
         from cophy_pg.ddl import advice_of
 
@@ -82,7 +80,7 @@ class OfTheProgram(InFolder):
         status, text = called("retune", catalogue, workload, *self.in_folder("edits"), "4", "--nodes", "1")
         self.assertEqual((status, [it.is_finished for it in read_retuned(text)]), (0, [True]))
 
-    @unittest.skipUnless(HAS_PARSER, "python3-pglast isn't installed")
+    @unittest.skipIf(NO_PARSER, NO_PARSER)
     def test_edits_lead_to_the_advice_on_the_later_workload(self) -> None:
         draw = random.Random(4)
         files = self.in_folder("old", "new", "edits")

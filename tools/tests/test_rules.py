@@ -1,16 +1,14 @@
 """`cophy-pg rules`: rules with PostgreSQL's names, and what becomes of them."""
 from __future__ import annotations
 
-import importlib.util
 import subprocess
 import unittest
 
 from cophy_text.rules import Rule, read_rule, rules_in, why_not
-from fixtures import TOOL, InFolder
+from fixtures import NO_PARSER, TOOL, InFolder
 from patience import LONG
 
-HAS_PARSER = importlib.util.find_spec("pglast") is not None
-if HAS_PARSER:
+if not NO_PARSER:
     from cophy_pg.catalogue import read_schema
     from cophy_pg.rules import Translation
 
@@ -93,7 +91,7 @@ class Lines(unittest.TestCase):
         self.assertEqual(list(rules_in(b"")), [])
 
 
-@unittest.skipUnless(HAS_PARSER, "python3-pglast isn't installed")
+@unittest.skipIf(NO_PARSER, NO_PARSER)
 class Translated(unittest.TestCase):
     def translation(self, given: str, skips_unknown: bool = False) -> Translation:
         made = Translation(read_schema(CATALOGUE.encode()), skips_unknown)
@@ -184,7 +182,7 @@ class Translated(unittest.TestCase):
         self.assertEqual([it.split(":")[0] for it in made.faults], ["line 4"])
 
 
-@unittest.skipUnless(HAS_PARSER, "python3-pglast isn't installed")
+@unittest.skipIf(NO_PARSER, NO_PARSER)
 class Command(InFolder):
     def call(self, given: str) -> tuple[int, str]:
         (self.folder / "c.toml").write_text(CATALOGUE)
