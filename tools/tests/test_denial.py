@@ -34,7 +34,8 @@ class Bounds(unittest.TestCase):
         ends: tuple[list[int] | None, ...] = ([], None)
         for end in ends:
             orders = Orders.__new__(Orders)
-            types = Counted({at: (f"t{at}", [at - 1, at - 2] if at > 1 else [0]) for at in range(1, 3000)})
+            types: Counted[tuple[str, list[int] | None]] = Counted()
+            types.update({at: (f"t{at}", [at - 1, at - 2] if at > 1 else [0]) for at in range(1, 3000)})
             types[0] = ("point", end)
             orders.types, orders.too_deep, orders.told = types, set(), {}
             told = [orders.why_not(at) for at in range(2999, 0, -1)]
