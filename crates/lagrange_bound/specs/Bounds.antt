@@ -1,7 +1,7 @@
 -- The Lagrangian value of a node, as a programme tells it: what the plans of its parts cost where the candidates that may
 -- be used pay rent, what exists and what is in costs, less what the rents bring in and the price of the budget. Candidates
 -- are numbered from 1; their places among sizes, upkeep and states are counted from 0.
-use Rattle.std.specs.Prelude.{ℕ, suc, ◌+◌, ◌-◌, ◌*◌, ◌==◌, Bool, true, false, if◌then◌else◌, List, [], ◌∷◌, length, drop, slice_index_or, ℤ, pos, ◌+ℤ◌, ◌-ℤ◌}
+use Rattle.std.specs.Prelude.{ℕ, suc, ◌+◌, ◌-◌, ◌*◌, ◌^◌, ◌<◌, ◌==◌, Bool, true, false, if◌then◌else◌, List, [], ◌∷◌, length, drop, slice_index_or, ℤ, pos, ◌+ℤ◌, ◌-ℤ◌}
 use Rattle.std.specs.Int.{int_div_euclid}
 use Rattle.adv_base.specs.Configs.{fits_beside}
 use Rattle.adv_base.specs.Nodes.{available_in}
@@ -90,6 +90,13 @@ value_of_costs programme budget fix multipliers costs = value_of_plans programme
 -- the costs that they have at a node
 abbrev pub costs_at : Programme → ℕ → Fix → Multipliers → List ℕ
 costs_at programme budget fix multipliers = plan_costs (available_in (space_in programme budget) (node_of fix)) programme.parts multipliers.lambda
+
+-- before the division, the terms of the value are below 10 ^ 37: what plans, what exists and what is in cost, and what the
+-- node earns with the price of the budget
+abbrev pub AreTermsBelow : Programme → ℕ → Fix → Multipliers → Type 0
+AreTermsBelow programme budget fix multipliers =
+    (65536 * (weighted_costs programme.parts (costs_at programme budget fix multipliers) + programme.kept) + paid_in_all programme fix multipliers < 10 ^ 37)
+    × (earned_in_all programme budget fix multipliers + multipliers.mu * budget < 10 ^ 37)
 
 -- the Lagrangian value of a node
 unfoldable pub lagrangian : Programme → ℕ → Fix → Multipliers → ℤ

@@ -103,6 +103,7 @@ pub fn bound(programme: &Programme, budget: u64, fix: &Fix, multipliers: &Multip
     requires budget { budget ≤ MOST_PAGES }
     requires multipliers { AreMultipliers programme.now multipliers.now }
     ensures exact { result ≡ bounds.lagrangian programme.now budget fix.now multipliers.now }
+    ensures terms { bounds.AreTermsBelow programme.now budget fix.now multipliers.now }
     ensures lagrangian { laws.IsLagrangianInEach programme.now budget fix.now multipliers.now result }
 {
     value_of(programme, budget, fix, multipliers)

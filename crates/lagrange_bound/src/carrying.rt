@@ -189,7 +189,8 @@ pub fn total(
     requires budget { budget ≤ MOST_PAGES }
     requires multipliers { AreMultipliers programme.now multipliers.now }
     requires terms { at.now.least ≡ bounds.costs_at programme.now budget fix.now multipliers.now }
-    ensures { result ≡ bounds.lagrangian programme.now budget fix.now multipliers.now }
+    ensures exact { result ≡ bounds.lagrangian programme.now budget fix.now multipliers.now }
+    ensures terms { bounds.AreTermsBelow programme.now budget fix.now multipliers.now }
 {
     let parts = programme.parts.as_slice();
     let costs = at.least.as_slice();
