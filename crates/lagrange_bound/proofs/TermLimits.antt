@@ -112,7 +112,7 @@ earned-le Free true cost rents = omega arith
 earned-le Free false cost rents = omega arith
 
 earned-most : (programme : Programme) (budget : ℕ) (fix : Fix) (multipliers : Multipliers) → AreMultipliers programme multipliers → earned_in_all programme budget fix multipliers ≤ 65536 * MOST_RENTS
-unfolding earned_in_all, candidate_rents
+unfolding earned_in_all candidate_rents
 earned-most programme budget fix multipliers are =
     let n : ℕ = length programme.sizes in
     let few : length programme.parts ≤ MOST_STATEMENTS = programme.limits.parts_most in
