@@ -65,12 +65,7 @@ impl Planner {
             self.keep_used(task, KEPT);
         }
         let kept = recalled.max(self.count).min(KEPT.saturating_add(2));
-        self.gains.begin(task.matrix);
-        self.path.begin(task.matrix, root, task.budget);
-        self.count = 0;
-        self.asked = 0;
-        self.begin_anew();
-        self.add(task, 0);
+        self.begin(task, root);
         for set in 1..kept {
             self.add_known(task, set);
         }

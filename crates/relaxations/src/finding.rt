@@ -318,14 +318,6 @@ impl Finder {
         }
     }
 
-    /// The bound of a node.
-    fn bound(&self, place: usize) -> f64 {
-        match self.tree.nodes.get(place) {
-            Some(node) => node.bound,
-            None => f64::INFINITY,
-        }
-    }
-
     /// Begins at a root, with the cheaper of a greedy configuration and of one that is known from elsewhere.
     pub(crate) fn begin(
         &mut self,
@@ -379,7 +371,7 @@ impl Finder {
             if dive.is_none() {
                 turns = turns.wrapping_add(1);
             }
-            if self.bound(place) >= self.target() || self.tree.is_full() {
+            if self.tree.bound(place) >= self.target() || self.tree.is_full() {
                 break;
             }
             let side = self.visit(matrix, budget, place);

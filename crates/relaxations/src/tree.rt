@@ -120,11 +120,19 @@ impl Tree {
         best
     }
 
+    /// The bound of a node.
+    pub(crate) fn bound(&self, place: usize) -> f64 {
+        match self.nodes.get(place) {
+            Some(node) => node.bound,
+            None => f64::INFINITY,
+        }
+    }
+
     /// What a plan along the tree may show: that nothing is cheaper than a cost, or, where something is left open, its bound.
     pub(crate) fn reach(&self, cost: i128) -> i128 {
         let bound = match self.least() {
-            Some(open) if open < self.nodes.len() => self.nodes[open].bound,
-            _ => f64::INFINITY,
+            Some(open) => self.bound(open),
+            None => f64::INFINITY,
         };
         let whole = saturating_f64_to_i64(bound.floor());
         if whole < 0 || whole == i64::MAX {
