@@ -27,12 +27,10 @@
 //! ```
 #![tactic(auto)]
 
-mod at;
 mod board;
 mod changes;
 mod checking;
 mod claims;
-mod desk;
 mod fault;
 mod judge;
 mod lagrangian;
@@ -41,17 +39,13 @@ mod memo;
 mod multipliers;
 mod part;
 mod planning;
-mod rents;
-mod row;
-mod sound;
 mod tree;
 mod tree_reader;
 mod uses;
 
-pub use at::check_at;
-pub use checking::check;
+pub use checking::{check, check_at};
+pub use claims::config_with;
 pub use fault::{AtFault, CheckFault, Checked};
 pub use laws::{
     answers_are_alike, answers_are_one, best_answers_are_proved, faults_exclude_proofs,
 };
-pub use sound::config_with;

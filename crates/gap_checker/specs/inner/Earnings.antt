@@ -6,7 +6,7 @@ use Rattle.adv_base.specs.declared.workload.Statement.{Statement}
 use Rattle.adv_base.specs.Settings.{TheSetting}
 use Rattle.plan_model.specs.Lagrangian.{weighted_rents}
 use Rattle.gap_checker.specs.declared.multipliers.Multipliers.{Multipliers}
-use Rattle.gap_checker.specs.declared.rents.Rents.{Rents}
+use Rattle.gap_checker.specs.declared.multipliers.Rents.{Rents}
 use Rattle.gap_checker.specs.Views.{rent_in}
 
 abbrev pub rent_of : Rents → ℕ → ℕ → ℕ → ℕ

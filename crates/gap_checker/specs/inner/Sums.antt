@@ -8,7 +8,7 @@ use Rattle.plan_model.specs.Totals.{weighted_sum}
 use Rattle.gap_checker.specs.Views.{multipliers_of}
 use Rattle.hypo_indexes.specs.declared.figures.Figures.{Figures}
 use Rattle.gap_checker.specs.declared.multipliers.Multipliers.{Multipliers}
-use Rattle.gap_checker.specs.declared.rents.Rents.{Rents}
+use Rattle.gap_checker.specs.declared.multipliers.Rents.{Rents}
 
 -- the multipliers of a set
 abbrev pub the_multipliers : Rents → TheMultipliers

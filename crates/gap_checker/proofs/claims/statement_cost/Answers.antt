@@ -1,7 +1,7 @@
 use Rattle.std.proofs.Common.{arith}
 use Rattle.adv_base.specs.Settings.{the_setting}
 use Rattle.gap_checker.proofs.Lists.{unrented-plan}
-use Rattle.gap_checker.proofs.sound.statement_cost.Goals as goal
+use Rattle.gap_checker.proofs.claims.statement_cost.Goals as goal
 
 pub returns-clause-cost : goal.returns-clause-cost
 returns-clause-cost c =

@@ -12,7 +12,7 @@ use Rattle.adv_base.specs.Settings.{the_setting}
 use Rattle.gap_checker.proofs.Adding.{costs-more, costs-sum}
 use Rattle.gap_checker.proofs.EachDesk.{desks-count, desk-at, desks-set}
 use Rattle.gap_checker.proofs.Lists.{take-at, take-whole}
-use Rattle.gap_checker.proofs.sound.total_cost.Goals as goal
+use Rattle.gap_checker.proofs.claims.total_cost.Goals as goal
 
 pub bounds-desks-i : goal.bounds-desks-i
 bounds-desks-i c =

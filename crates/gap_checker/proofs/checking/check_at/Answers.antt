@@ -10,7 +10,7 @@ use Rattle.gap_checker.specs.At.{cert_at, IsAtFault}
 use Rattle.gap_checker.specs.declared.claims.Claims.{Claims}
 use Rattle.gap_checker.specs.inner.Claims.{cert_with}
 use Rattle.gap_checker.proofs.Told.{IsJudgeAt, some-behind, claims-fault, judge-for, fault-at, whole-proof, bounds-below}
-use Rattle.gap_checker.proofs.at.check_at.Goals as goal
+use Rattle.gap_checker.proofs.checking.check_at.Goals as goal
 
 pub of_head-requires : goal.of_head-requires
 of_head-requires g c = heads-keep-limits c.requires.bytes c.args.head.now c.requires.is

@@ -4,7 +4,7 @@ use Rattle.plan_model.specs.declared.plan.TheConstants.{MOST_COST}
 use Rattle.adv_base.specs.declared.limits.TheConstants.{MOST_CANDIDATES, MOST_INDEXES, MOST_UPKEEP, MOST_WEIGHT}
 use Rattle.adv_base.specs.Settings.{the_setting}
 use Rattle.gap_checker.specs.inner.Parts.{AreDesks}
-use Rattle.gap_checker.proofs.sound.total_cost.Given as goal
+use Rattle.gap_checker.proofs.claims.total_cost.Given as goal
 
 abbrev pub invariant-statements : goal.invariant-statements
 invariant-statements l =

@@ -1,7 +1,7 @@
 use Rattle.std.proofs.Common.{◌≡◌, ℕ, ◌<◌, length, subst, arith}
 use Rattle.std.proofs.lemmas.Option.{slice_get_within}
 use Rattle.gap_checker.specs.inner.Searches.{IsCut}
-use Rattle.gap_checker.proofs.rents.first_at.Goals as goal
+use Rattle.gap_checker.proofs.multipliers.first_at.Goals as goal
 
 pub halve-init : goal.halve-init
 halve-init c =

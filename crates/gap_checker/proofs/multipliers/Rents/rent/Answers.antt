@@ -3,7 +3,7 @@ use Rattle.std.specs.Prelude.{slice_get}
 use Rattle.gap_checker.specs.Views as views
 use Rattle.gap_checker.specs.inner.Searches.{IsCut, rent_of}
 use Rattle.gap_checker.proofs.Entries.{use_place, rent-cut, rent-most}
-use Rattle.gap_checker.proofs.rents.Rents.rent.Goals as goal
+use Rattle.gap_checker.proofs.multipliers.Rents.rent.Goals as goal
 
 pub returns-clause-exact : goal.returns-clause-exact
 returns-clause-exact c =

@@ -1,6 +1,6 @@
 use Rattle.std.proofs.Common.{arith}
 use Rattle.gap_checker.proofs.Entries.{cut-above, cut-below}
-use Rattle.gap_checker.proofs.rents.halved.Goals as goal
+use Rattle.gap_checker.proofs.multipliers.halved.Goals as goal
 
 pub returns-then-is_before-clause-cut : goal.returns-then-is_before-clause-cut
 returns-then-is_before-clause-cut c =

@@ -3,7 +3,7 @@ use Rattle.gap_checker.specs.inner.Judges as judges
 use Rattle.gap_checker.specs.inner.Memos.{IsMemo}
 use Rattle.gap_checker.specs.inner.Readings as readings
 use Rattle.gap_checker.proofs.Behind.{IsFrontBehind}
-use Rattle.gap_checker.proofs.at.read_tree.Given as goal
+use Rattle.gap_checker.proofs.checking.read_tree.Given as goal
 
 abbrev pub invariant-reading : goal.invariant-reading
 invariant-reading g l = record {

@@ -9,7 +9,7 @@ use Rattle.gap_checker.specs.inner.Judges.{setting_of, root_of}
 use Rattle.gap_checker.specs.inner.Readings.{IsTreeFault}
 use Rattle.gap_checker.proofs.Behind.{front-none, front-more, front-whole, front-on}
 use Rattle.gap_checker.proofs.Told.{some-behind, tree-fault, unfailed, same_Err}
-use Rattle.gap_checker.proofs.at.read_tree.Goals as goal
+use Rattle.gap_checker.proofs.checking.read_tree.Goals as goal
 
 pub returns-in_err-reader-clause-fault : goal.returns-in_err-reader-clause-fault
 returns-in_err-reader-clause-fault g c =
