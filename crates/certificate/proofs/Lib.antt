@@ -24,4 +24,4 @@ pub mod Short
 pub mod Reached
 pub mod Counting
 pub mod Heads
-pub mod Pieces
+pub mod NextPiece

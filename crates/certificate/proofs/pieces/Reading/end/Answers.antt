@@ -1,6 +1,6 @@
 use Rattle.std.proofs.Common.{subst, sym}
 use Rattle.certificate.specs.Heads.{IsHeadOf}
-use Rattle.certificate.proofs.Pieces.{read-breaks, read-head}
+use Rattle.certificate.proofs.NextPiece.{read-breaks, read-head}
 use Rattle.certificate.proofs.pieces.Reading.end.Goals as goal
 
 pub returns-then-not-is_whole-clause-fault : goal.returns-then-not-is_whole-clause-fault

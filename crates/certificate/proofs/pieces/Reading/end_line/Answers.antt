@@ -1,7 +1,7 @@
 use Rattle.std.proofs.Common.{Bool, true, false, [], ◌∷◌, subst}
 use Rattle.std.proofs.lemmas.Result.{IfOk-weaker}
 use Rattle.certificate.specs.inner.Pieces.{Extends}
-use Rattle.certificate.proofs.Pieces.{extends-reached, ends-line, long-ends-read}
+use Rattle.certificate.proofs.NextPiece.{extends-reached, ends-line, long-ends-read}
 use Rattle.certificate.proofs.pieces.Reading.end_line.Goals as goal
 
 pub returns-then-not-fits-clause-read : goal.returns-then-not-fits-clause-read

@@ -1,6 +1,6 @@
 use Rattle.std.proofs.Common.{[], length, sym, ap, subst, arith}
 use Rattle.certificate.specs.Certificates.{IsLine}
-use Rattle.certificate.proofs.Pieces.{reaches-start, no-bytes}
+use Rattle.certificate.proofs.NextPiece.{reaches-start, no-bytes}
 use Rattle.certificate.proofs.pieces.Reading.new.Goals as goal
 
 pub returns-clause-read : goal.returns-clause-read

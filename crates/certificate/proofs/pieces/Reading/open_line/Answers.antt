@@ -1,5 +1,5 @@
 use Rattle.std.proofs.lemmas.Result.{IfOk-weaker}
-use Rattle.certificate.proofs.Pieces.{extends-reached, opens-line}
+use Rattle.certificate.proofs.NextPiece.{extends-reached, opens-line}
 use Rattle.certificate.proofs.pieces.Reading.open_line.Goals as goal
 
 pub returns-clause-read : goal.returns-clause-read

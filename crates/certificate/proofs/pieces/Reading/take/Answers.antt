@@ -3,7 +3,7 @@ use Rattle.std.proofs.lemmas.List.{append-nil, append_assoc}
 use Rattle.std.proofs.lemmas.Result.{IfOk-weaker}
 use Rattle.certificate.specs.inner.Pieces.{IsRead, ReadsOn}
 use Rattle.certificate.proofs.Reached.{open-plain}
-use Rattle.certificate.proofs.Pieces.{piece-cut, piece-breaks}
+use Rattle.certificate.proofs.NextPiece.{piece-cut, piece-breaks}
 use Rattle.certificate.proofs.pieces.Reading.take.Goals as goal
 
 pub lines-init : goal.lines-init

@@ -1,4 +1,4 @@
-use Rattle.certificate.proofs.Pieces.{fits-reached, taken-bytes, taken-lines, taken-line, taken-reached, refused-line}
+use Rattle.certificate.proofs.NextPiece.{fits-reached, taken-bytes, taken-lines, taken-line, taken-reached, refused-line}
 use Rattle.certificate.proofs.pieces.Reading.take_line.Goals as goal
 
 pub take-requires : goal.take-requires

@@ -2,7 +2,7 @@ use Rattle.std.proofs.Common.{◌≡◌, ◌∙◌, ℕ, Bool, true, false, List
 use Rattle.std.proofs.lemmas.List.{append-nil}
 use Rattle.std.proofs.lemmas.Result.{err_from_is_err_and}
 use Rattle.certificate.proofs.Reached.{open-plain}
-use Rattle.certificate.proofs.Pieces.{piece-cut}
+use Rattle.certificate.proofs.NextPiece.{piece-cut}
 use Rattle.gap_checker.specs.declared.fault.AtFault.TheVariants as at_faults
 use Rattle.gap_checker.specs.inner.Readings.{Extends, IsFaultIn, TakesOn, line_number}
 use Rattle.gap_checker.proofs.Reading.{takes-nothing, takes-bytes, takes-both, fault-later, fault-before, long-breaks}
