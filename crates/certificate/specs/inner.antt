@@ -4,6 +4,6 @@ pub mod Outlines
 pub mod Steps
 pub mod Drafts
 pub mod Runs
-pub mod NextPiece
+pub mod Pieces
 pub mod States
 pub mod Writing
