@@ -24,7 +24,7 @@ use Rattle.retune.specs.declared.fault.RetuneFault.TheVariants as faults
 use Rattle.cophy_core.specs.commands.Retune.{IsAddition, IsAdditionFault, IsTaken, IsTunedOver, AreTunedOver, IsEditFault, IsFirstFault}
 use Rattle.cophy_core.specs.declared.stop.Stop.{Stop}
 use Rattle.cophy_core.specs.declared.stop.Stop.TheVariants.{Memory, Failed, Refused}
-use Rattle.cophy_core.specs.inner.Retuning.{IsShort, IsTold, OfEdit, OnLine, IsStepStop}
+use Rattle.cophy_core.specs.inner.EditSteps.{IsShort, IsTold, OfEdit, OnLine, IsStepStop}
 use Rattle.cophy_core.specs.Stops.{StopsAt}
 
 -- ## Combinations

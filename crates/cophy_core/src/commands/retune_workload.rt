@@ -13,7 +13,7 @@ ghost use Rattle.cophy_core.specs.Causes.{IsBounded};
 ghost use Rattle.cophy_core.specs.Settings.{AreStatementsOf};
 ghost use Rattle.cophy_core.specs.Stops.{StopsAt, LacksProgramme};
 ghost use Rattle.cophy_core.specs.commands.Retune as spec;
-ghost use Rattle.cophy_core.specs.inner.Retuning as inner;
+ghost use Rattle.cophy_core.specs.inner.EditSteps as inner;
 
 use crate::commands::advise::best_advice;
 use crate::commands::list_candidates::copies;

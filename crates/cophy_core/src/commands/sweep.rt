@@ -10,7 +10,7 @@ ghost use Rattle.cophy_core.specs.Causes.{IsBounded};
 ghost use Rattle.cophy_core.specs.Endings.{plain_puts};
 ghost use Rattle.cophy_core.specs.Stops.{StopsAt, LacksProgramme};
 ghost use Rattle.cophy_core.specs.commands.Sweep as spec;
-ghost use Rattle.cophy_core.specs.inner.Sweeps as inner;
+ghost use Rattle.cophy_core.specs.inner.PointCertificates as inner;
 
 use crate::commands::advise::has_all_flags;
 use crate::programmes::programme_of;

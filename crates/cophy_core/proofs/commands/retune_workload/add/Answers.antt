@@ -3,7 +3,7 @@ use Rattle.adv_base.specs.declared.catalogue.Catalogue.{Catalogue}
 use Rattle.programme_parts.specs.Combinations.{AreFew, HasFew}
 use Rattle.cophy_core.specs.Stops.{StopsAt}
 use Rattle.cophy_core.specs.commands.Retune.{IsAdditionFault}
-use Rattle.cophy_core.specs.inner.Retuning.{OnLine}
+use Rattle.cophy_core.specs.inner.EditSteps.{OnLine}
 use Rattle.cophy_core.proofs.Taking.{few_added, added_stop}
 use Rattle.cophy_core.proofs.commands.retune_workload.add.Goals as goal
 

@@ -7,7 +7,7 @@ use Rattle.binder.specs.Plain.{plain_statements}
 use Rattle.binder.specs.Statements.{statements_of}
 use Rattle.cophy_core.specs.Stops.{StopsAt}
 use Rattle.cophy_core.specs.commands.Retune.{IsAdditionFault}
-use Rattle.cophy_core.specs.inner.Retuning.{OnLine}
+use Rattle.cophy_core.specs.inner.EditSteps.{OnLine}
 use Rattle.cophy_core.proofs.commands.retune_workload.addition.Goals as goal
 
 pub returns-in_err-parsed-clause-stop : goal.returns-in_err-parsed-clause-stop

@@ -6,7 +6,7 @@ use Rattle.edit_script.specs.declared.edit.Edit.{Edit}
 use Rattle.edit_script.specs.declared.edit.Edit.TheVariants as edits
 use Rattle.cophy_core.specs.Stops.{StopsAt}
 use Rattle.cophy_core.specs.commands.Retune.{IsFirstFault}
-use Rattle.cophy_core.specs.inner.Retuning.{IsShort, OfEdit}
+use Rattle.cophy_core.specs.inner.EditSteps.{IsShort, OfEdit}
 use Rattle.cophy_core.proofs.Taking.{drop_at, holds_at, begins, tells, ends, stops}
 use Rattle.cophy_core.proofs.commands.retune_workload.advices.Goals as goal
 

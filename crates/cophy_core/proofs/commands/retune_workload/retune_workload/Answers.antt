@@ -3,7 +3,7 @@ use Rattle.std.specs.Prelude.{All}
 use Rattle.adv_base.specs.declared.limits.TheConstants.{MOST_FILE_BYTES}
 use Rattle.edit_script.specs.Scripts.{the_edit, the_edits}
 use Rattle.edit_script.specs.declared.edit.Edit.{Edit}
-use Rattle.cophy_core.specs.inner.Retuning.{IsShort}
+use Rattle.cophy_core.specs.inner.EditSteps.{IsShort}
 use Rattle.cophy_core.proofs.Taking.{short_edits, each_bounded}
 use Rattle.cophy_core.proofs.commands.retune_workload.retune_workload.Goals as goal
 
