@@ -7,7 +7,7 @@ use Rattle.adv_base.specs.Settings.{TheSetting}
 use Rattle.bip_model.specs.StandsFor.{AreEach}
 use Rattle.bip_model.proofs.Lists.{each-length}
 use Rattle.gap_checker.specs.declared.part.Part.{Part}
-use Rattle.gap_checker.specs.declared.part.Desk.{Desk}
+use Rattle.gap_checker.specs.declared.desk.Desk.{Desk}
 use Rattle.gap_checker.specs.inner.Parts.{IsPlanned, HasPart, IsDeskOf, HasDesk, AreDesks}
 use Rattle.gap_checker.proofs.Lists.{each-at}
 

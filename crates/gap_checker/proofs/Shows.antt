@@ -25,7 +25,7 @@ use Rattle.adv_base.specs.Offers.{Offer, OfferTable, Path, Heap, Existing, Candi
 use Rattle.bip_model.specs.StandsFor.{candidates_on}
 use Rattle.bip_model.proofs.Standing.{chosen-on}
 use Rattle.bip_model.proofs.Places.{enumerate-length}
-use Rattle.gap_checker.specs.declared.board.Row.{Row}
+use Rattle.gap_checker.specs.declared.row.Row.{Row}
 use Rattle.gap_checker.specs.inner.Parts.{every_candidate}
 use Rattle.gap_checker.specs.inner.Rows.{table_of, IsRowsOf, offers_of as row_offers, shown_of, shown_from}
 

@@ -1,25 +1,10 @@
-//! The offers of slots, as a search is shown them.
-ghost use Rattle.std.specs.Prelude.{◌≤◌, length};
+//! The offers of all slots, as a search is shown them.
 ghost use Rattle.adv_base.specs.OfferTables.{OfferTableLimits};
-ghost use Rattle.adv_base.specs.declared.limits.TheConstants.{MOST_OFFERS};
 ghost use Rattle.gap_checker.specs.inner.Rows.{table_of};
 
+use crate::row::{Row, Shown};
 use adv_base::Item;
 use plan_model::Offers;
-
-/// An offer: what the rows are sorted by, and its price with the rent, in thousandths of a page read.
-#[derive(Clone, Copy)]
-pub(crate) struct Shown<'a> {
-    pub order: &'a [Item],
-    pub price: u64,
-}
-
-/// The offers of a slot.
-#[derive(Drop)]
-pub(crate) struct Row<'a> {
-    pub shown: Vec<Shown<'a>>,
-    pub ghost few: { length shown.items ≤ MOST_OFFERS },
-}
 
 /// The offers of a block's slots: of the table, of the indexes that exist, and of the candidates that are available.
 #[derive(Drop)]

@@ -19,11 +19,11 @@ ghost use Rattle.gap_checker.specs.inner.Judges as judges;
 ghost use Rattle.gap_checker.specs.inner.Memos.{IsMemo};
 ghost use Rattle.gap_checker.specs.inner.Parts.{AreDesks, HasDesk};
 
+use crate::desk::Desk;
 use crate::fault::CheckFault;
 use crate::judge::Judge;
 use crate::memo::{Memo, statement_at};
 use crate::multipliers::{Rents, Terms};
-use crate::part::Desk;
 use crate::planning::plan_cost;
 use crate::uses::judge_pairs;
 use adv_base::{Config, NoMemory, Setting, Statement, first_clash};

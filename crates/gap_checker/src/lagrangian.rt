@@ -12,10 +12,10 @@ ghost use Rattle.gap_checker.specs.inner.Memos as memos;
 ghost use Rattle.gap_checker.specs.inner.Parts.{AreDesks};
 ghost use Rattle.gap_checker.specs.inner.Sums as sums;
 
+use crate::desk::Desk;
 use crate::judge::Judge;
 use crate::memo::{Last, weighted_plans};
 use crate::multipliers::{Multipliers, Terms};
-use crate::part::Desk;
 use adv_base::{Config, NoMemory};
 use bip_model::Fix;
 use std::alloc::Global;

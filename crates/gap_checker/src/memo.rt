@@ -12,8 +12,9 @@ ghost use Rattle.gap_checker.specs.inner.Parts as kept;
 ghost use Rattle.gap_checker.specs.inner.Sums as sums;
 
 use crate::changes::{Changes, changes_of, touches};
+use crate::desk::Desk;
 use crate::multipliers::Terms;
-use crate::part::{Desk, Part};
+use crate::part::Part;
 use crate::planning::plan_cost;
 use adv_base::{Config, NoMemory, Setting, Statement};
 use certificate::SparseSet;

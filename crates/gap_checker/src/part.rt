@@ -1,16 +1,14 @@
-//! What the searches of a statement start from, and what plans it over and over.
+//! What the searches of a statement start from.
 ghost use Rattle.std.specs.Prelude.{◌≡◌, IfOk};
 ghost use Rattle.adv_base.specs.Named.{NamesBlock, NamesWork};
 ghost use Rattle.adv_base.specs.Settings.{the_setting};
 ghost use Rattle.bip_model.specs.StandsFor.{AreEach};
-ghost use Rattle.planner.specs.Tables.{task_of};
 ghost use Rattle.gap_checker.specs.inner.Parts as kept;
 
 use access_paths::{ConfigOffers, task};
 use adv_base::limits::MOST_CANDIDATES;
 use adv_base::{Block, Config, NoMemory, Setting, Statement};
 use plan_model::Task;
-use planner::Search;
 use std::alloc::Global;
 
 /// The task of a statement's block, and its offers under all candidates, each priced once.
@@ -68,33 +66,4 @@ pub(crate) fn parts_of(alloc: Global, setting: &Setting<'_>) -> Result<Vec<Optio
         parts.push(part)?;
     }
     Ok(parts)
-}
-
-/// The task and the offers of a statement's block, and the search of the task, which is made once.
-#[derive(Drop)]
-pub(crate) struct Desk<'a> {
-    pub part: &'a Part,
-    pub search: Search<'a>,
-    pub ghost task: { task_of search ≡ part.now.task },
-}
-
-impl<'a> Desk<'a> {
-    ghost use Rattle.std.specs.Prelude.{IfOk};
-    ghost use Rattle.gap_checker.specs.inner.Parts as kept;
-
-    /// The desk of a statement, where it has a block. Want of memory is the one error.
-    pub(crate) fn of_part(
-        alloc: Global,
-        part: &'a Option<Part>,
-    ) -> Result<Option<Desk<'a>>, NoMemory>
-        ensures { IfOk result (kept.IsDeskOf part.now) }
-    {
-        match part {
-            Some(part) => {
-                let search = Search::new(alloc, &part.task)?;
-                Ok(Some(Desk { part, search }))
-            }
-            None => Ok(None),
-        }
-    }
 }

@@ -13,9 +13,11 @@ ghost use Rattle.gap_checker.specs.inner.Charges.{charge_of};
 ghost use Rattle.gap_checker.specs.inner.Parts as kept;
 ghost use Rattle.gap_checker.specs.inner.Rows as rows;
 
-use crate::board::{Board, Row, Shown};
+use crate::board::Board;
+use crate::desk::Desk;
 use crate::multipliers::Terms;
-use crate::part::{Desk, Part};
+use crate::part::Part;
+use crate::row::{Row, Shown};
 use adv_base::{Block, NoMemory, Setting, Statement};
 use plan_model::Offers;
 use std::alloc::Global;

@@ -11,7 +11,7 @@ use Rattle.access_paths.specs.ConfigOffers.{AreOffersOf, table_of}
 use Rattle.plan_model.specs.BlockTask.{IsTaskOf}
 use Rattle.plan_model.specs.Totals.{block_of}
 use Rattle.gap_checker.specs.declared.part.Part.{Part}
-use Rattle.gap_checker.specs.declared.part.Desk.{Desk}
+use Rattle.gap_checker.specs.declared.desk.Desk.{Desk}
 
 -- the configuration of all candidates
 abbrev pub every_candidate : Config

@@ -4,8 +4,8 @@ use Rattle.std.specs.Option.{option_map_or}
 use Rattle.adv_base.specs.declared.setting.Config.{Config}
 use Rattle.adv_base.specs.Configs.{has_candidate}
 use Rattle.adv_base.specs.Offers.{Offer, OfferTable}
-use Rattle.gap_checker.specs.declared.board.Shown.{Shown}
-use Rattle.gap_checker.specs.declared.board.Row.{Row}
+use Rattle.gap_checker.specs.declared.row.Shown.{Shown}
+use Rattle.gap_checker.specs.declared.row.Row.{Row}
 
 abbrev pub offer_of : Shown → Offer
 offer_of shown = (shown.order.now, shown.price)
