@@ -19,7 +19,7 @@ if not NO_PARSER:
     from cophy_pg.pricing import Chosen, Pricing
     from cophy_pg.program import Program
     from cophy_pg.progress import Progress
-    from cophy_pg.searches import Rules, Searches
+    from cophy_pg.searches import EXCHANGING, MOST_SEARCHES, Rules, Searches
     from cophy_pg.sizes import stored_size
     from cophy_text.rules import read_rule
 
@@ -156,6 +156,22 @@ class OverTheStandIn(InFolder):
         advice, _ = Searches(self.program, self.kept, asked, (), Progress()).filling(schema, Rules())
         self.assertEqual([it.table for it in advice.picks], ["large"])
         self.assertGreaterEqual(advice.budget, sizes["large"][0])
+
+    def test_searches_are_counted_up_to_their_end(self) -> None:
+        told = list[str]()
+        schema = read_schema(self.kept.read(folder.CATALOGUE))
+        progress = type("Told", (Progress,), {"__call__": lambda _, text: told.append(text)})()
+        searches = Searches(self.program, self.kept, 500, (), progress)
+        for _ in range(2):
+            told.clear()
+            searches.filling(schema, Rules())
+            numbers = [int(it.split()[1]) for it in told if it.endswith(f" of at most {MOST_SEARCHES}")]
+            self.assertEqual(numbers, [*range(1, len(numbers) + 1)])
+            self.assertGreater(len(numbers), 1)
+            self.assertEqual({*told} - {f"search {it} of at most {MOST_SEARCHES}" for it in numbers}, {EXCHANGING})
+        told.clear()
+        searches.proved(500)
+        self.assertEqual(told, ["search 1 of at most 1"])
 
     def test_the_curve_has_points_where_its_first_picks_come_in(self) -> None:
         sizes = {it.table: it.pages for it in self.program.advise(10**9).picks}

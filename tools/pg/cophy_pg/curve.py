@@ -53,7 +53,7 @@ class Search:
 
     def at(self, budget: int) -> Advice:
         """The advice for a budget."""
-        self.progress(f"advising for {counted(budget, 'page')}")
+        self.progress(f"advising for {space(budget)}" if budget < MOST_PAGES else "advising without a limit")
         return self.program.advise(budget, self.nodes)
 
     def along(self, steps: int) -> list[Advice]:

@@ -14,7 +14,7 @@ from cophy_pg.planning import COSTLY, Planning, costly_picks
 from cophy_pg.plans import Plan, costs_without, under
 from cophy_pg.program import NoCommand, Program
 from cophy_pg.schema import Schema
-from cophy_pg.searches import Rules, Searches
+from cophy_pg.searches import MOST_SEARCHES, Rules, Searches
 from cophy_pg.server import Server, reading
 from cophy_pg.steps import Steps
 from cophy_pg.verify import Judged, judge
@@ -43,7 +43,8 @@ class Rounds:
     def searched(self, number: int) -> Choice:
         """What fills the budget under the rules so far, at the begin of a round."""
         self.steps.begin(f"round {number} of at most {ROUNDS}")
-        with self.steps.step("advise", "searching for the best indexes"):
+        # What is told beside the searches is that picks are exchanged.
+        with self.steps.step("advise", "searching for the best indexes", MOST_SEARCHES + 1):
             advice, rules = self.searches.filling(self.schema, self.rules)
         return Choice(advice, [(it, UNTAKEN) for it in self.rules.forbidden], rules=rules)
 
@@ -86,6 +87,7 @@ class Rounds:
         """Adds what the server's planner takes in the space that is left, as long as it says that this saves something. Where
         each pick has to save so much by our model, nothing is added."""
         exchange = self.searches.exchange(self.schema, self.rules)
+        self.searches.begin(ADDITIONS)
         for number in range(0 if self.words.min_saving else ADDITIONS):
             self.steps.begin(f"space left over, round {number + 1} of at most {ADDITIONS}")
             planning = Planning(self.schema, judged.verdicts, self.words.planning)

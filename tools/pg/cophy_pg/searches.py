@@ -7,9 +7,9 @@ from dataclasses import dataclass, field, replace
 from cophy_text import files
 from cophy_text.answers import Advice, Candidate, counted, explained, read_advice
 from cophy_text.rules import Rule, read_rule
-from cophy_text.shown import MOST_PAGES, grouped, space
+from cophy_text.shown import MOST_PAGES, space
 from cophy_pg import folder
-from cophy_pg.budget import filled, room_in
+from cophy_pg.budget import FURTHER, MOST_TRIES, filled, room_in
 from cophy_pg.curve import between
 from cophy_pg.exchange import Exchange
 from cophy_pg.folder import Folder
@@ -25,6 +25,9 @@ WELL_FILLED = 0.95
 """Where less of the space is filled, it is said why."""
 MOST_STARTS = 4
 """Of so many sets of picks is it tried what exchanges make of them."""
+MOST_SEARCHES = MOST_TRIES + len(FURTHER) + 1
+"""So often is searched in a round: for what fills the budget, and for what exchanges made of that."""
+EXCHANGING = "exchanging picks for others"
 POINTS, FIRST = 3, 3
 """How many points a curve has where it bends, and where its first picks come in, beside those that were searched for anyhow."""
 
@@ -96,11 +99,14 @@ class Searches:
     texts: dict[int, str] = field(default_factory=dict)
     ruled: dict[tuple[int, str], str] = field(default_factory=dict)
     pricing: Pricing | None = None
+    count: int = 0
+    most: int = 0
 
     def filling(self, schema: Schema, rules: Rules) -> tuple[Advice, str]:
         """The advice that fills the budget as PostgreSQL stores it, and the rules that it is found under: where other picks cost
         less in the same space, these have to be."""
         lines, tried = rules.text(), list[Advice]()
+        self.begin(MOST_SEARCHES)
         if lines:
             self.kept.write({folder.RULES: lines})
 
@@ -109,7 +115,7 @@ class Searches:
             return tried[-1]
 
         found = filled(self.asked, advised, lambda it: stored_size(schema, it.picks))
-        self.progress("exchanging picks for others")
+        self.progress(EXCHANGING)
         better = self._exchanged(schema, rules, found, tried)
         if better is None or self._prices().cost(better) >= found.cost:
             return found, lines
@@ -159,8 +165,13 @@ class Searches:
         clustered = {number: it.table.lower() for number, it in prices.candidates.items() if it.is_clustered}
         return Exchange(prices, sizes, room_in(self.asked), frozenset(fixed), clustered)
 
+    def begin(self, most: int) -> None:
+        """Begins a part of at most so many searches, which are counted."""
+        self.count, self.most = 0, most
+
     def _at(self, budget: int, rules: str = "") -> Advice:
-        self.progress(f"advising for {grouped(budget)} pages by the model")
+        self.count += 1
+        self.progress(f"search {self.count}" + (f" of at most {self.most}" if self.count <= self.most else ""))
         if rules:
             words = (str(budget), self.kept.path(folder.RULES), *self.nodes)
             text = self.ruled[budget, rules] = self.program.text("ruled", *words)
@@ -176,6 +187,7 @@ class Searches:
     def proved(self, budget: int) -> tuple[Advice, str]:
         """The advice for a budget without rules, which goes into the folder with its certificate, and what `check` says of
         that. Its bound holds under all rules."""
+        self.begin(1)
         advice = self._at(budget)
         os.replace(self.kept.path(f"{folder.CERTIFICATE}-{budget}"), self.kept.path(folder.CERTIFICATE))
         text = self.program.text("check", self.kept.path(folder.CERTIFICATE))
@@ -185,6 +197,7 @@ class Searches:
     def curve(self) -> list[Advice]:
         """What less and more space would buy without rules: 0, where the first picks come in, what was searched for, what no
         budget limits, and some where the curve bends."""
+        self.begin(2 + FIRST + POINTS)
         most = self._at(MOST_PAGES)
         known = {it: read_advice(text) for it, text in self.texts.items() if it < most.size}
         known |= {it: self._at(it) for it in (0, *self._begins(most)) if it < most.size or not it}
