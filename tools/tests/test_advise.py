@@ -35,6 +35,11 @@ HAS_JINJA = importlib.util.find_spec("jinja2") is not None
 HAS_RICH = importlib.util.find_spec("rich") is not None
 
 
+def without_gains(script: str) -> str:
+    """A script without what its picks save, which `ddl` doesn't know."""
+    return re.sub(r"(?m)^(-- \d+\. .*?)[:,] saves [\d.,-]+ %.*$", r"\1", script)
+
+
 @unittest.skipIf(NO_HYPOPG, NO_HYPOPG)
 class Advise(OverShop):
     kept: Path
@@ -118,7 +123,7 @@ class Advise(OverShop):
                 continue
             ran = self.call(*step[1:])
             if step[1] == "ddl":
-                self.assertEqual(ran.stdout, (self.kept / "indexes.sql").read_text())
+                self.assertEqual(ran.stdout, without_gains((self.kept / "indexes.sql").read_text()))
         self.assertEqual((self.kept / "kept.txt").read_text(), kept)
 
     def test_text_for_people(self) -> None:
@@ -331,7 +336,9 @@ class Advise(OverShop):
             it for it in (self.found / "commands.txt").read_text().splitlines() if it.startswith("cophy-pg ddl ")
         ]
         script = (self.found / "indexes.sql").read_text()
-        self.assertEqual(self.call(*shlex.split(step)[1:]).stdout, script)
+        plain = self.call(*shlex.split(step)[1:]).stdout
+        self.assertEqual(without_gains(script), plain)
+        self.assertRegex(script, r"(?m)^-- 1\. \w+\(.*\): saves [\d.]+ %, the most of \w+ ")
         self.assertIn(made["statements"][0], script)
         sizes = json.loads(self.call(*shlex.split(step)[1:], "--json").stdout)
         self.assertEqual(sizes["stored_size"], found["stored_pages"])
@@ -354,7 +361,7 @@ class Advise(OverShop):
         text = re.sub(r"\x1b\[[0-9;?]*[A-Za-z]", "", shown.decode(errors="replace")).rsplit("reading the database", 1)[
             1
         ]
-        for it in ("searching for the best indexes +\u2501+ 1/1", "asking the server's planner +\u2501+ 10/10"):
+        for it in ("searching for the best indexes +\u2501+ 16/16", "asking the server's planner +\u2501+ 10/10"):
             self.assertIsNotNone(re.search(rf"\nround 1 of at most 4, {it} +\d:\d\d:\d\d\r", text), text[-2000:])
 
     @unittest.skipUnless(COPHY.exists(), "the program isn't built")

@@ -102,7 +102,7 @@ class Statements(InFolder):
         text = self.ddl(CLUSTERED, advice=advice)
         self.assertLess(text.index("CLUSTER "), text.index('("n", "c")'))
         script = self.ddl(CLUSTERED, "--script", advice=advice)
-        self.assertRegex(script, r"(?s)'2 of 2: t\(c\) clustered, about .*'1 of 2: t\(n, c\), about ")
+        self.assertRegex(script, r"(?s)2, 't\(c\) clustered', 'about .*1, 't\(n, c\)', 'about ")
         found = json.loads(self.ddl(CLUSTERED, "--json", advice=advice))["picks"]
         self.assertEqual([(it["number"], it["clustered"]) for it in found], [(2, True), (1, False)])
         self.assertEqual(found[0]["statement"], f"{MADE}\n{LAID}".rstrip())

@@ -78,9 +78,30 @@ class Script(OverOwn):
         self.assertEqual(self.names(), made)
         self.server.psql("CREATE INDEX other ON plain (b)", "making")
         said = self.run_script(text, "-v", "undo=1")
-        self.assertEqual(re.findall(r"^(\d): (\w+)_idx is dropped$", said, re.MULTILINE)[-1], ("1", "plain_a_b"))
+        dropped = re.findall(r"^(\d): (\w+)_idx is dropped$", said, re.MULTILINE)
+        self.assertEqual([dropped[0], *(it for it, _ in dropped)], [("1", "plain_a_b"), *"12344"])
         self.assertEqual(self.names(), ["other"])
         self.server.psql("DROP INDEX other", "making")
+
+    def test_it_has_little_to_read(self) -> None:
+        columns = ("a", "b", "c", "a, b", "b, a", "c, a", "a, b, c", "b, c")
+        head, _, rest = self.script(tuple(f"plain({it})" for it in columns), "--unadvised", "8").partition("\n\n")
+        self.assertLessEqual(len(head.split()), 120)
+        for it in (
+            "7 steps",
+            " MB of indexes",
+            "CONCURRENTLY",
+            "-v undo=1",
+            "-v without=N,N",
+            "-v all=1",
+            "run it again",
+        ):
+            self.assertIn(it, head)
+        same, _, indexes = rest.partition("\n-- The indexes\n")
+        self.assertLess(len(same.split()), 1000)
+        self.assertLessEqual(len(indexes.split()), 8 * 30 + 40)
+        parts = indexes.split("\n\n")
+        self.assertEqual([len(it.strip().splitlines()) for it in parts[:8]], [3] * 8)
 
     def test_a_superuser_makes_none_where_a_partition_is_anothers(self) -> None:
         text, before = self.script(("parted(kind, day)",)), self.names()

@@ -24,7 +24,7 @@ from cophy_pg.folding import Folding
 from cophy_pg.included import searched_columns
 from cophy_pg.making import ddl_text, in_order
 from cophy_pg.outcomes import Verdict
-from cophy_pg.overview import lines_of
+from cophy_pg.overview import gain_of, lines_of
 from cophy_pg.page import NoReport, page_of
 from cophy_pg.picks import home_of
 from cophy_pg.plans import plans_of
@@ -178,12 +178,13 @@ class Run:
         none, kept, _ = result.prices
         picks, order, unadvised = result.choice.advice.picks, result.numbers(), result.places_left_out()
         text = advice_text(replace(result.advice, picks=picks), [it.number for it in picks], kept.total)
+        brings = {it["number"]: gain_of(it) for it in result.plain_picks()}
         self.folder.write(
             {
                 folder.VERIFY: json.dumps(as_json(result.judged, [none, kept, kept]), indent=2) + "\n",
                 folder.KEPT: text,
                 folder.DDL: ddl_text(
-                    result.schema, in_order(read_advice(text), order), is_script=True, unadvised=unadvised
+                    result.schema, in_order(read_advice(text), order), is_script=True, unadvised=unadvised, gains=brings
                 ),
                 folder.PLANS: json.dumps(result.plans.document(result.workload)) + "\n",
                 folder.COMMANDS: commands_text(

@@ -4,10 +4,11 @@ from __future__ import annotations
 import argparse
 import json
 import os
-from collections.abc import Sequence
+from collections.abc import Mapping, Sequence
 from contextlib import suppress
 from dataclasses import replace
 from textwrap import wrap
+from types import MappingProxyType
 from typing import Any
 
 from cophy_text import files
@@ -156,8 +157,10 @@ def ddl_text(
     is_script: bool = False,
     more: list[str] | None = None,
     unadvised: Sequence[int] = (),
+    gains: Mapping[int, str] = MappingProxyType({}),
 ) -> str:
-    """The statements with comments on what they are of, or a script, which makes what isn't advised where it is asked to."""
+    """The statements with comments on what they are of, or a script, which makes what isn't advised where it is asked to, and
+    says what picks bring, where that is given by their numbers."""
     end = "the bound is reached: no other choice costs less" if advice.is_finished else "these picks cost more than it"
     made = made_of(schema, advice)
     budget, size = both(advice.budget, None), both(advice.size, sum(stored_of(schema, it) for it in made))
@@ -166,7 +169,8 @@ def ddl_text(
     head.append(f"-- {UNIT}")
     left_out = [f"-- pick {it.pick.number} is left out, {_comment(it.why_not)}" for it in made if it.why_not]
     if is_script:
-        return script_text(schema, made, [*(more or []), *left_out], speed, unadvised)
+        shown = {number: _comment(it) for number, it in gains.items()}
+        return script_text(schema, made, [*(more or []), *left_out], speed, unadvised, shown)
     lines = [*head, *OWNERS]
     for it in made:
         lines += ["", f"-- pick {it.pick.number}: {both(it.pick.pages, stored_of(schema, it) or None)}"]

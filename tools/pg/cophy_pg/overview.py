@@ -7,7 +7,7 @@ from cophy_text.answers import counted
 from cophy_text.shown import grouped, percent, share, short, space
 from cophy_pg.choice import ASKED, UNTAKEN
 from cophy_pg.closing import costs, last_of
-from cophy_pg.guesses import doubt_of, gains, seconds_of, warning_of
+from cophy_pg.guesses import doubt_of, gains, is_judged, seconds_of, warning_of
 from cophy_pg.recommended import KINDS, LITTLE
 from cophy_pg.unlimited import told, warning
 
@@ -116,6 +116,13 @@ def _numbers(listed: list[int]) -> str:
 def named(pick: dict[str, Any]) -> str:
     """A pick by the names of the catalogue."""
     return f"{pick['table']}({', '.join(pick['columns'])}){' clustered' * pick.get('clustered', False)}"
+
+
+def gain_of(pick: dict[str, Any]) -> str:
+    """What a pick saves, by the server's planner where that judged it, and the statement that gains the most."""
+    saves = pick["saves"]["server"] if is_judged(pick) else pick["saves"]["ours"]
+    users = gains(pick)
+    return f"saves {percent(saves)}" + (f", the most of {short(users[0]['sql'])}" if users else "")
 
 
 def name_of(statement: dict[str, Any]) -> str:
