@@ -113,6 +113,21 @@ class Script(OverOwn):
         self.assertIn(todo, said)
         self.assertEqual(self.names(), before)
 
+    def test_each_owner_makes_what_is_his(self) -> None:
+        text = self.script(("plain(a)", "parent(a)"))
+        self.server.psql("CREATE ROLE stranger LOGIN; ALTER TABLE plain OWNER TO stranger", "making")
+        self.server.psql("GRANT CREATE ON SCHEMA public TO stranger", "making")
+        back = "ALTER TABLE plain OWNER TO cophy; DROP OWNED BY stranger; DROP ROLE stranger"
+        self.addCleanup(self.server.psql, back, "making")
+        self.assertIn("let their owner run the script, not a superuser", self.run_script(text, status=3))
+        self.run_script(text, "-v", "without=1")
+        self.assertIn("only the owner of the tables", self.run_script(text, status=3, PGUSER="stranger"))
+        self.run_script(text, "-v", "without=2", PGUSER="stranger")
+        self.assertEqual(self.names(), ["child_a_idx", "parent_a_idx", "plain_a_idx"])
+        self.run_script(text, "-v", "undo=1", "-v", "without=1")
+        self.run_script(text, "-v", "undo=1", "-v", "without=2", PGUSER="stranger")
+        self.assertEqual(self.names(), [])
+
     def test_its_statements_are_none_of_the_workload(self) -> None:
         self.server.psql("CREATE EXTENSION pg_stat_statements; SELECT pg_stat_statements_reset()", "making")
         self.addCleanup(self.server.psql, "DROP EXTENSION pg_stat_statements", "making")

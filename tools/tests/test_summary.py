@@ -165,10 +165,30 @@ class Summary(unittest.TestCase):
 
         at = {"owners": ["root"], "host": "localhost", "port": 5432}
         self.assertEqual(
-            command_of(self.document | at, "/a/b c"), "sudo -u root psql -X -p 5432 -d 'shop & <b>' < '/a/b c'"
+            command_of(self.document | at, "/a/b c", "root"), "sudo -u root psql -X -p 5432 -d 'shop & <b>' < '/a/b c'"
         )
-        there = command_of(self.document | at | {"host": "db"}, "/a")
+        there = command_of(self.document | at | {"host": "db"}, "/a", "root")
         self.assertEqual(there, "psql -X -h db -p 5432 -d 'shop & <b>' -U root -f /a")
+
+    def test_long_times_are_told_in_minutes_hours_and_days(self) -> None:
+        from cophy_pg.speed import duration
+
+        told = {0.2: "1 second", 119: "119 seconds", 2308: "38 minutes", 7200: "2 hours", 200000: "2 days"}
+        self.assertEqual([duration(it) for it in told], [*told.values()])
+
+    def test_each_owner_has_a_line_that_passes_over_the_tables_of_others(self) -> None:
+        self.five()
+        for at, it in enumerate(self.document["picks"]):
+            it["owner"] = "app" if at % 2 else "root"
+        self.document["picks"][4]["caveat"] = "it saves 0.4 %"
+        self.document |= {"owners": ["root", "app", "none"], "host": "localhost", "port": 5432}
+        self.assertTrue(self.verdict()[-3].endswith(", a line for each owner:"))
+        place = "-p 5432 -d 'shop & <b>'"
+        wanted = [
+            f"sudo -u root psql -X {place} -v without=2,4,5 < /home/you/advice/indexes.sql",
+            f"psql -X -h localhost {place} -U app -v without=1,3,5 -f /home/you/advice/indexes.sql",
+        ]
+        self.assertEqual(self.verdict()[-2:], wanted)
 
     def test_what_the_bound_says_is_told_in_plain_words(self) -> None:
         from cophy_pg.overview import lines_of
@@ -202,7 +222,6 @@ class Summary(unittest.TestCase):
         for owners, text in (
             (["app"], f"their owner {call} app -f /a/indexes.sql"),
             (["a b; $(c)"], f"their owner {call} 'a b; $(c)' -f /a/indexes.sql"),
-            (["a", "b"], f"a member of a and b, who own the tables, {call} OWNER -f /a/indexes.sql"),
             ([], f"their owner {call} OWNER -f /a/indexes.sql"),
         ):
             with self.subTest(owners=owners):

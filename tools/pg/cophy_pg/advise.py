@@ -96,6 +96,7 @@ class Run:
         self.searches = Searches(self.program, kept, words.budget, nodes, steps)
         self.rules = Rules()
         self.head: dict[str, Any] = {}
+        self.owners: dict[str, str | None] = {}
         self.warnings: list[str] = []
 
     def document(self) -> dict[str, Any]:
@@ -144,13 +145,16 @@ class Run:
         if points:
             curve = [as_json_of_point(it, none.total) for it in points]
             self.folder.write({folder.CURVE: json.dumps(curve, indent=2) + "\n"})
-        return result.document()
+        document = result.document()
+        return document | {"picks": [it | {"owner": self.owners.get(it["table"])} for it in document["picks"]]}
 
     def _tell_owners(self, server: Server, schema: Schema, choice: Choice) -> None:
         """Who owns the tables of the picks."""
-        tables = {it.table for it in choice.advice.picks}
+        picked = {it.table for it in choice.advice.picks}
+        tables = [it for it in schema.tables.values() if it.shown in picked]
         with reading(server):
-            self.head["owners"] = owners_of(server, [it.oid for it in schema.tables.values() if it.shown in tables])
+            self.head["owners"] = owners_of(server, [it.oid for it in tables])
+            self.owners = {it.shown: next(iter(owners_of(server, [it.oid])), None) for it in tables}
 
     def _tell_rest(self, schema: Schema, advice: Advice, choice: Choice, unused: str | None) -> None:
         """Why the picks cost more than the bound, and why they leave space."""

@@ -53,17 +53,32 @@ def next_of(document: dict[str, Any], script: str) -> list[str]:
     """Who may run the script, and how, where it makes something; and who may have faked what was counted."""
     if not document["picks"]:
         return [*document.get("doubts", [])]
-    owners = [*map(_plain, document["owners"])]
-    whose = "their owner" if len(owners) < 2 else f"a member of {' and '.join(owners)}, who own the tables,"
     known = [it["build_seconds"] for it in document["picks"] if it.get("build_seconds") is not None]
     time = f" in about {duration(sum(known))}" if known else ""
-    return [f"to make them{time}, let {whose} run: {command_of(document, script)}", *document.get("doubts", [])]
+    commands = commands_of(document, script)
+    whose = "their owner" if len(commands) < 2 else "the owner of each"
+    return [f"to make them{time}, let {whose} run: {'; '.join(commands)}", *document.get("doubts", [])]
 
 
-def command_of(document: dict[str, Any], script: str, more: str = "") -> str:
-    """What the owner of the tables runs. One that is a user of this machine needs no password."""
-    owners, host = [*map(_plain, document["owners"])], str(document.get("host") or "")
-    who = owners[0] if len(owners) == 1 else "OWNER"
+def commands_of(document: dict[str, Any], script: str) -> list[str]:
+    """What the owners of the tables run, each what is of his; what isn't recommended where nothing is."""
+    owners, picks = document["owners"], [*enumerate(document["picks"], 1)]
+    advised = [at for at, it in picks if not it.get("caveat")] or [at for at, _ in picks]
+    if len(owners) < 2:
+        everything = " -v all=1" if all(it.get("caveat") for _, it in picks) else ""
+        return [command_of(document, script, owners[0] if owners else "OWNER", everything)]
+    lines = []
+    for owner in owners:
+        own = [at for at, it in picks if it.get("owner") == owner and at in advised]
+        others = ",".join(str(at) for at, _ in picks if at not in own)
+        if own:
+            lines += [command_of(document, script, owner, f" -v without={others}" if others else "")]
+    return lines
+
+
+def command_of(document: dict[str, Any], script: str, owner: str, more: str = "") -> str:
+    """What an owner of tables runs. One that is a user of this machine needs no password."""
+    who, host = _plain(owner), str(document.get("host") or "")
     keys = [("port", "-p"), ("database", "-d")]
     is_user = _is_user(who) and (host in HERE or host.startswith("/"))
     given = [it for it in ([] if is_user else [("host", "-h")]) + keys if document.get(it[0])]

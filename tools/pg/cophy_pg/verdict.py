@@ -8,7 +8,7 @@ from cophy_text import files
 from cophy_text.answers import counted
 from cophy_text.shown import percent, share, short, space
 from cophy_pg import folder
-from cophy_pg.closing import command_of
+from cophy_pg.closing import commands_of
 from cophy_pg.folder import Folder
 from cophy_pg.guesses import gains, is_judged
 from cophy_pg.overview import headline, measured, much_skipped, named, part_of
@@ -34,9 +34,8 @@ def verdict(document: dict[str, Any], kept: Folder) -> list[str]:
     if picks:
         known = [it["build_seconds"] for _, it in advised or picks if it.get("build_seconds") is not None]
         time = f" (about {duration(sum(known))}, reads and writes go on)" if known and not _locks(document) else ""
-        who = ", as a member of " + " and ".join(document["owners"]) if len(document["owners"]) > 1 else ""
-        everything = "" if advised else " -v all=1"
-        lines += [f"make them{time}{who}:", command_of(document, kept.path(folder.DDL), everything)]
+        commands = commands_of(document, kept.path(folder.DDL))
+        lines += [f"make them{time}{', a line for each owner' * (len(commands) > 1)}:", *commands]
     return lines
 
 
