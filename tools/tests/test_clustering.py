@@ -91,11 +91,9 @@ class Statements(InFolder):
     def test_how_long_it_takes_goes_by_rates(self) -> None:
         rates = ("--rows-a-second", "1000", "--pages-a-second", "100")
         # A thousand seconds for the one index, and 181.82 for the pages.
-        self.assertIn("about 1,182 seconds", " ".join(self.ddl(CLUSTERED, *rates).split()))
+        self.assertIn("about 20 minutes", " ".join(self.ddl(CLUSTERED, *rates).split()))
         both = CLUSTERED + INDEX.replace('"c"', '"n"')
-        self.assertIn(
-            "18,182 pages (142.0 MB) and its indexes, about 2,182 seconds", self.ddl(both, *rates, "--script")
-        )
+        self.assertIn("18,182 pages (142.0 MB) and its indexes, about 36 minutes", self.ddl(both, *rates, "--script"))
 
     def test_the_order_comes_before_the_other_indexes_of_a_table(self) -> None:
         advice = ADVICE.replace("pick 2", "pick 1 t(n, c) 9 pages\npick 2")

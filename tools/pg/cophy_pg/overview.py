@@ -9,6 +9,7 @@ from cophy_pg.choice import ASKED, UNTAKEN
 from cophy_pg.closing import costs, last_of
 from cophy_pg.guesses import doubt_of, gains, is_judged, seconds_of, warning_of
 from cophy_pg.recommended import KINDS, LITTLE
+from cophy_pg.speed import duration
 from cophy_pg.unlimited import told, warning
 
 MOST_CHANGES = 5
@@ -146,7 +147,7 @@ def _head(document: dict[str, Any]) -> str:
     picks = document["picks"]
     size = f", {space(document['stored_pages'])} of {space(document['asked_pages'])}" if picks else ""
     what = f"database {document['database']!a}, {part_of(document)}"
-    return f"{headline(document)}{size}: {what}; advised in {sum(document['seconds'].values()):,.1f} s"
+    return f"{headline(document)}{size}: {what}; advised in {_seconds(sum(document['seconds'].values()))}"
 
 
 def part_of(document: dict[str, Any]) -> str:
@@ -205,6 +206,8 @@ def _measured_time(changes: list[dict[str, Any]]) -> str:
 
 
 def _seconds(number: float) -> str:
+    if number >= 120:
+        return duration(number)
     return f"{number:,.1f} s" if number >= 1 else f"{number:.2g} s"
 
 

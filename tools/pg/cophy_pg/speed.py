@@ -48,5 +48,8 @@ class Speed:
 
 
 def duration(number: float) -> str:
-    """Seconds in words, at least one."""
+    """Seconds in words, at least one; from two minutes on in minutes, from two hours on in hours, from two days on in days."""
+    for name, seconds in (("day", 86400), ("hour", 3600), ("minute", 60)):
+        if number >= 2 * seconds:
+            return counted(round(number / seconds), name)
     return counted(max(1, round(number)), "second")
