@@ -75,39 +75,6 @@ class Wrapper(OverCopy):
         self.assertIn(b"there is no such file", self.copy.on_terminal(*words, **how))
         self.assertNotIn(b"there is no such file", self.copy.on_terminal(*words, COPHY_HINTS="0", **how))
 
-    def test_unproved_hands_on_text_and_status_and_says_so(self) -> None:
-        ran = self.copy.call(
-            "--unproved",
-            "cost",
-            "examples/single.toml",
-            "nowhere.sql",
-            FAKE_TEXT="read fault: nowhere.sql\\n",
-            FAKE_ENDS="run=ended status=3 runners=1 proved=no",
-        )
-        self.assertEqual((ran.returncode, ran.stdout), (3, b"read fault: nowhere.sql\n"))
-        self.assertEqual(ran.stderr.count(b"\n"), 1)
-        self.assertIn(b"UNPROVED", ran.stderr)
-        file = self.copy.root / "examples" / "single.toml"
-        self.assertEqual(
-            self.copy.called(), [f"rt try --data cophy-file-1={file} -- cost cophy-file-1 nowhere.sql in cophy_cli"]
-        )
-
-    def test_unproved_calls_files_as_the_caller_does(self) -> None:
-        ran = self.copy.call(
-            "--unproved",
-            "cost",
-            "examples/single.toml",
-            "examples/single.sql",
-            FAKE_TEXT="refused: too long cophy-file-2\\n",
-            FAKE_ENDS="run=ended status=5 runners=1 proved=no",
-        )
-        self.assertEqual((ran.returncode, ran.stdout), (5, b"refused: too long examples/single.sql\n"))
-
-    def test_unproved_ends_with_70_where_the_run_has_no_end(self) -> None:
-        ran = self.copy.call("--unproved", "cost", "a", "b", FAKE_RT="6", FAKE_ENDS="run=none proved=no")
-        self.assertEqual((ran.returncode, ran.stdout), (70, b""))
-        self.assertIn(b"run=none", ran.stderr)
-
 
 if __name__ == "__main__":
     unittest.main()

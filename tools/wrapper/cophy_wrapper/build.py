@@ -6,6 +6,7 @@ import re
 import signal
 import subprocess
 import sys
+from collections.abc import Callable
 from pathlib import Path
 from typing import IO
 
@@ -122,9 +123,14 @@ def build(root: Path) -> bool:
                 return True
     finally:
         begun.unlink(missing_ok=True)
-    say(f"the build failed; the end of {log}:")
-    sys.stderr.buffer.write(b"".join(log.read_bytes().splitlines(True)[-5:]))
+    tell_end(f"the build failed; the end of {log}:", log)
     return False
+
+
+def tell_end(why: str, log: Path) -> None:
+    """Says why a build failed, and the end of what it wrote."""
+    say(why)
+    sys.stderr.buffer.write(b"".join(log.read_bytes().splitlines(True)[-5:]))
 
 
 class Interrupted(BaseException):
@@ -136,7 +142,7 @@ def _interrupt(*_: object) -> None:
     raise Interrupted
 
 
-def main(words: list[str]) -> int:
+def main(words: list[str], builder: Callable[[Path], bool] = build) -> int:
     """Takes the root of the repository. The status is 0 where the program stands, 70 where it doesn't, 130 after an
     interrupt."""
     # The script is told of these, unless they are to be passed over, and then ends the build by SIGTERM.
@@ -144,7 +150,7 @@ def main(words: list[str]) -> int:
         signal.signal(number, signal.SIG_IGN)
     signal.signal(signal.SIGTERM, _interrupt)
     try:
-        return 0 if build(Path(words[0])) else 70
+        return 0 if builder(Path(words[0])) else 70
     except OSError as fault:
         say(f"the build can't go on: {fault.filename or words[0]}: {fault.strerror}")
         return 70

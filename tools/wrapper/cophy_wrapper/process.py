@@ -11,9 +11,15 @@ from typing import IO
 class Process:
     """A command that runs in a session of its own, so that all its processes can be ended."""
 
-    def __init__(self, command: list[str], folder: Path, said: IO[bytes]) -> None:
+    def __init__(self, command: list[str], folder: Path, said: IO[bytes], **environment: str) -> None:
         self._process = subprocess.Popen(
-            command, cwd=folder, stdin=subprocess.DEVNULL, stdout=said, stderr=subprocess.STDOUT, start_new_session=True
+            command,
+            cwd=folder,
+            env={**os.environ, **environment},
+            stdin=subprocess.DEVNULL,
+            stdout=said,
+            stderr=subprocess.STDOUT,
+            start_new_session=True,
         )
 
     def status(self) -> int | None:

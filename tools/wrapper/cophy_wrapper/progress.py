@@ -23,8 +23,8 @@ class Progress:
         seconds = int(time.monotonic() - self._begun)
         return f"{seconds // 60} min {seconds % 60:02d} s"
 
-    def tell_while(self, what: Callable[[], str], runs: Callable[[], bool]) -> None:
-        """Tells of a step at once, and as long as it runs."""
+    def tell_while(self, what: Callable[[], str], runs: Callable[[], bool], pause: float = 0.1) -> None:
+        """Tells of a step at once, and as long as it runs, which is looked at again after each pause."""
         due = 0.0
         try:
             while True:
@@ -34,7 +34,7 @@ class Progress:
                     self._tell(what())
                 if not runs():
                     break
-                time.sleep(0.1)
+                time.sleep(pause)
         finally:
             if self._is_terminal:
                 print(file=sys.stderr, flush=True)
