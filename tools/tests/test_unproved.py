@@ -37,7 +37,9 @@ class Unproved(OverCopy):
         self.assertEqual(self.copy.called(), ["rt try -- try in cophy_cli", "program try", "program cost a b"])
         told = f"cophy: kept as {self.kept}; for the tools: export COPHY_PROGRAM={self.kept}\n"
         self.assertTrue(ran.stderr.decode().endswith(told), ran.stderr)
-        self.assertEqual(sorted(it.name for it in self.out.iterdir()), ["build.lock", "build.log", "built", self.kept.name])
+        self.assertEqual(
+            sorted(it.name for it in self.out.iterdir()), ["build.lock", "build.log", "built", self.kept.name]
+        )
 
     def test_later_calls_build_nothing_and_say_one_line(self) -> None:
         self.unproved("cost", "a", "b")
@@ -96,7 +98,7 @@ class Unproved(OverCopy):
             with self.subTest(what=what):
                 ran = self.unproved("cost", "a", "b", status=70, **how)
                 self.assertEqual(ran.stdout, b"")
-                self.assertIn(b"the program couldn't be built without the proof, or not be kept; the end of", ran.stderr)
+                self.assertIn(b"the program couldn't be built without its proof, or couldn't be kept; the", ran.stderr)
                 self.assertIn(b"proved=no", ran.stderr)
                 self.assertEqual(sorted(it.name for it in self.out.iterdir()), ["build.lock", "build.log"])
                 self.assertEqual(self.builds(), count)

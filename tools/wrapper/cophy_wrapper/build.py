@@ -20,7 +20,7 @@ MEMORY = 3 * 1024 * 1024
 NEWER = ["a source is newer than the program: proving what changed and building it again. That may take some minutes."]
 FIRST = [
     "first use: each crate that it stands on is proved and then the program is built. That takes many minutes, an",
-    "hour or more on a small machine; later calls start at once. For a look in a few, unproved: cophy --unproved ...",
+    "hour or more on a small machine; later calls start at once. For a first look in a few: cophy --unproved ...",
 ]
 
 
@@ -142,8 +142,13 @@ def _interrupt(*_: object) -> None:
     raise Interrupted
 
 
-def main(words: list[str], builder: Callable[[Path], bool] = build) -> int:
-    """Takes the root of the repository. The status is 0 where the program stands, 70 where it doesn't, 130 after an
+def main(words: list[str]) -> int:
+    """Takes the root of the repository."""
+    return status_of(build, words)
+
+
+def status_of(builder: Callable[[Path], bool], words: list[str]) -> int:
+    """Builds in the repository of this root. The status is 0 where the program stands, 70 where it doesn't, 130 after an
     interrupt."""
     # The script is told of these, unless they are to be passed over, and then ends the build by SIGTERM.
     for number in (signal.SIGINT, signal.SIGHUP):
