@@ -7,6 +7,7 @@ import os
 import pty
 import re
 import shlex
+import shutil
 import stat
 import subprocess
 import tempfile
@@ -363,6 +364,20 @@ class Advise(OverShop):
         ]
         for it in ("searching for the best indexes +\u2501+ 16/16", "asking the server's planner +\u2501+ 10/10"):
             self.assertIsNotNone(re.search(rf"\nround 1 of at most 4, {it} +\d:\d\d:\d\d\r", text), text[-2000:])
+
+    def test_what_an_unproved_program_answers_is_never_called_proved(self) -> None:
+        program = shutil.copy(STAND_IN, self.folder / "cophy-unproved")
+        (self.folder / "link").symlink_to(program)
+        found = self.advise(COPHY_PROGRAM=str(self.folder / "link"))
+        told = "not proved, as the program is unproved"
+        self.assertTrue(found["proved"].startswith(f"{told}; it says: proved cost "))
+        self.assertTrue(any(it.startswith("the program is unproved: no proof") for it in found["warnings"]))
+        for name in ("summary.txt", "details.txt", "check.txt", "advice.json", *["report.html"] * HAS_JINJA):
+            text = " ".join((self.found / name).read_text().split())
+            with self.subTest(name=name):
+                self.assertIn(told, text)
+                self.assertNotIn("(proved", text)
+                self.assertNotIn("certificate checked", text)
 
     @unittest.skipUnless(COPHY.exists(), "the program isn't built")
     def test_with_the_program_itself(self) -> None:

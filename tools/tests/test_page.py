@@ -197,6 +197,14 @@ class Page(InFolder):
         self.assertNotIn("What a budget buys", text)
         self.assertEqual(stat.S_IMODE((self.folder / "report.html").stat().st_mode), 0o600)
 
+    def test_what_an_unproved_program_answers_is_never_called_proved(self) -> None:
+        self.assertIn("That holds of our model", self.page())
+        self.document["proved"] = f"not proved, as the program is unproved; it says: {self.document['proved']}"
+        self.write()
+        text = self.page()
+        self.assertIn("That is said of our model", text)
+        self.assertEqual(text.count("not proved, as the program is unproved"), 3)
+
     def test_no_number_is_parted_from_its_unit_and_doubts_and_rules_are_told(self) -> None:
         left_out = {
             "number": 6,

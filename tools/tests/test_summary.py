@@ -204,6 +204,20 @@ class Summary(unittest.TestCase):
         self.document |= {"unused": "5.0 MB stay free: so it is", "knee": "of all"}
         self.assertEqual(lines_of(self.document)[-2:], ["5.0 MB stay free: so it is", "of all"])
 
+    def test_what_an_unproved_program_answers_is_never_called_proved(self) -> None:
+        from cophy_pg.overview import lines_of
+
+        self.five()
+        self.document["proved"] = f"not proved, as the program is unproved; it says: {self.document['proved']}"
+        for bound in (1800000, 1700000):
+            self.document["cost"]["bound"] = bound
+            text = " ".join(self.verdict())
+            self.assertIn("(not proved, as the program is unproved", text)
+            self.assertNotIn("(proved", text)
+            details = lines_of(self.document)
+            self.assertTrue(any(it.endswith("; not proved, as the program is unproved") for it in details), details)
+            self.assertNotIn("checked", " ".join(details))
+
     def test_how_one_index_is_left_out_is_told_below_them(self) -> None:
         from cophy_pg.overview import lines_of
 

@@ -28,7 +28,7 @@ from cophy_pg.overview import gain_of, lines_of
 from cophy_pg.page import NoReport, page_of
 from cophy_pg.picks import home_of
 from cophy_pg.plans import plans_of
-from cophy_pg.program import Program, program_file
+from cophy_pg.program import Program, is_unproved, program_file
 from cophy_pg.progress import say
 from cophy_pg.ranking import rank
 from cophy_pg.recommended import Costs, Recommended, without_caveats
@@ -52,6 +52,7 @@ from cophy_pg.verify import advice_text, as_json, look_up
 from cophy_pg.why import reasons
 from cophy_pg.workload import Workload, made
 
+UNPROVED = "the program is unproved: no proof says that its costs and bounds are those of the model"
 NOTHING = 3
 """The status where no index is worth making."""
 
@@ -132,6 +133,7 @@ class Run:
             all_ = self.program.whatif(it.number for it in advice.picks)
         # In a file of SQL a statement has the weight that it was given.
         warnings = [*self.warnings, *self.rules.remarks, *([] if self.words.sql else ran_once(workload, none))]
+        warnings += [UNPROVED] * is_unproved(self.words.program)
         told = {"warnings": warnings, "lint": lint, "rewriting": summary(workload), "rules": listed_in(choice.rules)}
         parts = (found.schema, workload, advice, choice, judged, plans, (none, kept, all_), reason, proved)
         self._tell_rest(found.schema, advice, choice, unused)

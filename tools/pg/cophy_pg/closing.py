@@ -12,6 +12,7 @@ from cophy_pg import folder
 from cophy_pg.folder import Folder
 from cophy_pg.speed import duration
 
+NOT_PROVED = "not proved, as the program is unproved"
 HERE = ("", "localhost", "127.0.0.1", "::1")
 """Hosts that are this machine; so are folders of sockets."""
 
@@ -36,7 +37,11 @@ def costs(document: dict[str, Any]) -> list[str]:
 
 
 def end_of(document: dict[str, Any]) -> str:
-    """What the bound says of the advice."""
+    """What the bound says of the advice, and whether it is said by an unproved program."""
+    return _end(document) + f"; {NOT_PROVED}" * (proof_of(document) == NOT_PROVED)
+
+
+def _end(document: dict[str, Any]) -> str:
     cost, gap = document["cost"], document.get("gap")
     fit = f"of {space(document['budget_pages'])}"
     if cost["after"] == cost["bound"]:
@@ -47,6 +52,12 @@ def end_of(document: dict[str, Any]) -> str:
     return text + (
         f"; most of the gap is {gap['index']}: {gap['why']}" if gap else ", be they left out or against rules"
     )
+
+
+def proof_of(document: dict[str, Any]) -> str:
+    """What is said of the bound, by what the check of the certificate answered."""
+    answers = {"proved ": "proved", NOT_PROVED: NOT_PROVED}
+    return next((said for it, said in answers.items() if document["proved"].startswith(it)), "not checked")
 
 
 def next_of(document: dict[str, Any], script: str) -> list[str]:
@@ -108,6 +119,6 @@ def _plain(name: str) -> str:
 
 def last_of(document: dict[str, Any]) -> list[str]:
     """What the bound says, why space is left, and from where on more space helps little."""
-    is_checked = "; certificate checked" * document["proved"].startswith("proved ")
+    is_checked = "; certificate checked" * (proof_of(document) == "proved")
     more = (document.get(it) for it in ("unused", "knee"))
     return [end_of(document) + is_checked, *(it for it in more if it)]

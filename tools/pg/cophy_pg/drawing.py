@@ -37,7 +37,7 @@ def _lines(axes: Any, points: list[Point], unit: float, last: int) -> None:
     line = axes.step([*across, last * unit], [*up, up[-1]], where="post", label="cost, and how many indexes")[0]
     axes.plot(across, up, "o", color=line.get_color(), markersize=4)
     across_bounds, bounds_up = [it.pages * unit for it in bounds], [it.cost / 1000 for it in bounds]
-    axes.step([0, *across_bounds], [bounds_up[0], *bounds_up], where="pre", linestyle="--", label="proved bound")
+    axes.step([0, *across_bounds], [bounds_up[0], *bounds_up], where="pre", linestyle="--", label="bound")
     # Beyond the last budget there is room for the number of indexes there.
     axes.set_xlim(-0.02 * last * unit, 1.05 * last * unit)
     axes.set_ylim(bottom=0, top=1.08 * max(*up, *bounds_up, 0.001))

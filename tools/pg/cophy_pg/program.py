@@ -16,6 +16,8 @@ from cophy_text.files import shown
 SCRIPT = Path(__file__).resolve().parents[3] / "cophy"
 BUILT = SCRIPT.parent / "crates" / "cophy_cli" / "out" / "cophy_cli"
 NAME = "cophy"
+UNPROVED = "cophy-unproved"
+"""The program's file where `cophy --unproved` built it."""
 MOST_POINTS = 16
 """How many points a sweep has at most."""
 
@@ -58,6 +60,12 @@ def program_file(name: str) -> str:
     if found is None or not os.path.isfile(found):
         raise ProgramFault(f"the program {shown(name)} isn't there: name it by --program or COPHY_PROGRAM")
     return found
+
+
+def is_unproved(name: str) -> bool:
+    """Whether a program was built without its proof, be it named by a link."""
+    file = program_file(name)
+    return UNPROVED in (os.path.basename(file), os.path.basename(os.path.realpath(file)))
 
 
 class Program:

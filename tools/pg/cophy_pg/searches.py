@@ -10,12 +10,13 @@ from cophy_text.rules import Rule, read_rule
 from cophy_text.shown import MOST_PAGES, space
 from cophy_pg import folder
 from cophy_pg.budget import FURTHER, MOST_TRIES, filled, room_in
+from cophy_pg.closing import NOT_PROVED
 from cophy_pg.curve import between
 from cophy_pg.exchange import Exchange
 from cophy_pg.folder import Folder
 from cophy_pg.inputs import NoInput
 from cophy_pg.pricing import Chosen, Pricing
-from cophy_pg.program import NoCommand, Program
+from cophy_pg.program import NoCommand, Program, is_unproved
 from cophy_pg.progress import Progress, say
 from cophy_pg.rules import Translation
 from cophy_pg.schema import Schema
@@ -191,6 +192,7 @@ class Searches:
         advice = self._at(budget)
         os.replace(self.kept.path(f"{folder.CERTIFICATE}-{budget}"), self.kept.path(folder.CERTIFICATE))
         text = self.program.text("check", self.kept.path(folder.CERTIFICATE))
+        text = f"{NOT_PROVED}; it says: {text}" if is_unproved(self.program.file) else text
         self.kept.write({folder.ADVICE: self.texts[budget], folder.CHECK: text})
         return advice, text.strip()
 

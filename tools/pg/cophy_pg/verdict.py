@@ -8,7 +8,7 @@ from cophy_text import files
 from cophy_text.answers import counted
 from cophy_text.shown import percent, share, short, space
 from cophy_pg import folder
-from cophy_pg.closing import commands_of
+from cophy_pg.closing import commands_of, proof_of
 from cophy_pg.folder import Folder
 from cophy_pg.guesses import gains, is_judged
 from cophy_pg.overview import headline, measured, much_skipped, named, part_of
@@ -60,13 +60,12 @@ def _sentence(document: dict[str, Any], count: int) -> str:
     by_model, most = _saved(found["cost"], ours["before"]), _saved(ours["bound"], ours["before"])
     text = f"{what}: the workload then costs {saved} less by the server's planner"
     text += f", {by_model} less by our model"
-    proved = "proved" if document["proved"].startswith("proved ") else "not checked"
     if found["cost"] == ours["bound"]:
-        text += f", the most that this budget can save ({proved})"
+        text += f", the most that this budget can save ({proof_of(document)})"
     else:
         gap = document.get("gap")
         rest = f"; the rest is mostly {gap['index']}: {gap['why']}" if gap else ""
-        text += f" ({proved}: at most {most} within this budget{rest})"
+        text += f" ({proof_of(document)}: at most {most} within this budget{rest})"
     return f"{text}; {judged}."
 
 
