@@ -73,7 +73,7 @@ def _permit(table: Table) -> list[str]:
             f"index {it.name!a} counts as not clustered: rows lie in its order, and may be laid in another"
         )
         told.append(
-            f"the rows of {table.shown} lie in the order of {it.name!a}, and {WORD} gives that up: what it saves now isn't "
-            f"priced, so compare with an export without {WORD}"
+            f"the rows of {table.shown} lie in the order of {it.name!a}, and {WORD} gives that up unpriced: compare with an "
+            "export without it"
         )
     return told
