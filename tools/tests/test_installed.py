@@ -117,13 +117,27 @@ class Program(unittest.TestCase):
 
     @unittest.skipIf(MISSING, MISSING)
     def test_in_the_repository_it_is_the_script(self) -> None:
-        from cophy_pg.program import found_program
+        from cophy_pg import program
 
-        with mock.patch.dict(os.environ):
+        with mock.patch.dict(os.environ, PATH="/nowhere"):
             os.environ.pop("COPHY_PROGRAM", None)
-            self.assertEqual(found_program(), str(ROOT / "cophy"))
+            self.assertEqual(program.found_program(), str(ROOT / "cophy"))
             os.environ["COPHY_PROGRAM"] = "/elsewhere/cophy"
-            self.assertEqual(found_program(), "/elsewhere/cophy")
+            self.assertEqual(program.found_program(), "/elsewhere/cophy")
+
+    @unittest.skipIf(MISSING, MISSING)
+    def test_one_on_the_path_comes_before_a_build(self) -> None:
+        from cophy_pg import program
+
+        with tempfile.TemporaryDirectory() as folder, mock.patch.dict(os.environ, PATH=folder):
+            os.environ.pop("COPHY_PROGRAM", None)
+            installed, built = Path(folder, "cophy"), Path(folder, "built")
+            installed.write_text("#!/bin/sh\n")
+            installed.chmod(0o755)
+            with mock.patch.object(program, "BUILT", built):
+                self.assertEqual(program.found_program(), "cophy")
+                built.write_text("")
+                self.assertEqual(program.found_program(), str(ROOT / "cophy"))
 
 
 if __name__ == "__main__":

@@ -42,11 +42,11 @@ def add_program(parser: argparse.ArgumentParser) -> None:
 
 def found_program() -> str:
     """The program where no word names it: that of COPHY_PROGRAM, the script of the repository that this module stands in, or
-    the one on the path, which comes first where the script would have to build one and can't."""
+    the one on the path, which comes first where the script would have to build one."""
     if given := os.environ.get("COPHY_PROGRAM"):
         return given
-    has_program = BUILT.is_file() or _on_path("rt") is not None or _on_path(NAME) is None
-    return str(SCRIPT) if SCRIPT.is_file() and has_program else NAME
+    is_ready = BUILT.is_file() or _on_path(NAME) is None
+    return str(SCRIPT) if SCRIPT.is_file() and is_ready else NAME
 
 
 def _on_path(name: str) -> str | None:
