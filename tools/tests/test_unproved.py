@@ -14,6 +14,7 @@ SAID = b"cophy: UNPROVED: nothing has proved the program that gives this answer\
 WRITER = """#!/bin/sh
 [ "$5" != --cert ] || echo certificate >"$6"
 """
+SIGNALS = (signal.SIGTERM, signal.SIGHUP, signal.SIGINT)
 
 
 class Unproved(OverCopy):
@@ -105,7 +106,12 @@ class Unproved(OverCopy):
         self.assertEqual(self.unproved("cost", "a", "b", FAKE_TEXT="done").stdout, b"done")
 
     def begin(self) -> subprocess.Popen[str]:
-        """Begins a call whose build waits."""
+        """Begins a call whose build waits, and which takes each signal, whatever this process ignores."""
+
+        def prepare() -> None:
+            for number in SIGNALS:
+                signal.signal(number, signal.SIG_DFL)
+
         return subprocess.Popen(
             [self.copy.root / "cophy", "--unproved", "cost", "a", "b"],
             cwd=self.copy.root,
@@ -113,6 +119,7 @@ class Unproved(OverCopy):
             stdin=subprocess.DEVNULL,
             stdout=subprocess.PIPE,
             stderr=subprocess.PIPE,
+            preexec_fn=prepare,
             text=True,
         )
 
@@ -129,7 +136,7 @@ class Unproved(OverCopy):
         self.assertEqual(self.builds(), 1)
 
     def test_a_call_that_is_told_to_end_leaves_nothing(self) -> None:
-        for number in (signal.SIGTERM, signal.SIGHUP, signal.SIGINT):
+        for number in SIGNALS:
             with self.subTest(number=number):
                 self.copy.forget()
                 started = self.begin()
