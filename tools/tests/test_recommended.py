@@ -38,7 +38,7 @@ class Recommended(unittest.TestCase):
             (pick(1, 20.0, 10.0), ""),
             (pick(1, 0.4, 0.9), "it saves 0.9 %"),
             (pick(1, 27.0, 3.3), "the server saves 3.3 %: probably not worth 1.0 MB"),
-            (pick(1, 14.0, 20.0, changes=charged), "writes pay 16.0 % for it, reads save 30.0 %"),
+            (pick(1, 14.0, 20.0, changes=charged), "writes take 53.3 % of what it saves"),
             (pick(1, 20.0, 0.0, outcome="unknown"), "whether plans take it isn't known"),
             (pick(1, 20.0, 0.0, outcome="unknown", clustered=True), ""),
             (pick(1, 20.0, 10.0, long_likely=["a"]), "an INSERT of more than 2,704 bytes in a would fail"),

@@ -6,7 +6,7 @@ from collections.abc import Callable, Iterable
 from dataclasses import dataclass, field
 from typing import Any
 
-from cophy_text.shown import percent
+from cophy_text.shown import percent, share
 from cophy_pg.guesses import doubt_of, is_judged, warning_of
 from cophy_pg.unlimited import warning
 
@@ -40,7 +40,7 @@ def caveat_of(pick: dict[str, Any], document: dict[str, Any]) -> str:
     charged = -sum(min(0.0, it["ours"]) for it in pick["changes"])
     gained = sum(max(0.0, it["ours"]) for it in pick["changes"])
     if charged > MOST_CHARGED * gained and is_judged(pick):
-        return f"writes pay {percent(charged)} for it, reads save {percent(gained)}"
+        return f"writes take {share(charged, gained)} of what it saves" if gained else "it saves no read anything"
     return doubt_of(pick) or warning_of(pick, document)
 
 
