@@ -97,6 +97,12 @@ class Advise(OverShop):
             self.server.value("SELECT count(*) FROM pg_indexes WHERE indexname LIKE '%total_idx'", "shop"), "0"
         )
 
+    def test_no_file_has_the_password_of_a_command_that_is_skipped(self) -> None:
+        self.sql.write_text(f"{QUERIES}ALTER ROLE cophy PASSWORD 'hunter2';")
+        found = self.advise("--no-curve")
+        self.assertEqual(found["statements"][-1]["sql"], "ALTER ROLE cophy PASSWORD ?")
+        self.assertEqual([it.name for it in self.found.iterdir() if b"hunter2" in it.read_bytes()], [])
+
     def test_costs_add_up(self) -> None:
         found = self.first
         for side in ("before", "after"):
@@ -141,7 +147,8 @@ class Advise(OverShop):
         self.assertEqual(text, (self.found / "details.txt").read_text())
         self.assertEqual(re.sub("advised in .*", "", text), re.sub("advised in .*", "", before))
         self.assertRegex(
-            text, r"\A\d+ indexes to make, [0-9.]+ MB of 20\.0 MB: database 'shop', 5 of 5 statements; advised in "
+            text,
+            r"\A\d+ indexes to make, [0-9.]+ MB of 20\.0 MB, of which \d+ recommended, [0-9.]+ MB: database 'shop', 5 of 5 statements; ",
         )
         ddl = r'CREATE INDEX CONCURRENTLY "sales_orders_total_idx" ON "sales"\."orders" \("total"\);'
         sql = r"SELECT id FROM sales\.orders WHERE total =\.\.\."

@@ -34,11 +34,13 @@ class Recommended(unittest.TestCase):
         from cophy_pg.recommended import caveat_of
 
         charged = [change(1, "SELECT 1", 30.0, 20.0), change(2, "UPDATE t", -16.0, 0.0)]
+        little = [change(1, "SELECT 1", 0.01, 20.0), change(2, "UPDATE t", -0.01, 0.0)]
         for given, why in (
             (pick(1, 20.0, 10.0), ""),
-            (pick(1, 0.4, 0.9), "it saves 0.9 %"),
+            (pick(1, 0.4, 0.9), "it saves 0.9 % at most, by any measure"),
             (pick(1, 27.0, 3.3), "the server saves 3.3 %: probably not worth 1.0 MB"),
             (pick(1, 14.0, 20.0, changes=charged), "writes take 53.3 % of what it saves"),
+            (pick(1, 0.0, 20.0, changes=little), ""),
             (pick(1, 20.0, 0.0, outcome="unknown"), "whether plans take it isn't known"),
             (pick(1, 20.0, 0.0, outcome="unknown", clustered=True), ""),
             (pick(1, 20.0, 10.0, long_likely=["a"]), "an INSERT of more than 2,704 bytes in a would fail"),

@@ -127,7 +127,7 @@ class Summary(unittest.TestCase):
         self.five()
         picks = self.document["picks"]
         picks[1]["caveat"], picks[3]["caveat"] = "it saves 0.4 %", "it would fail"
-        picks[0]["superfluous"] = ['"public"."old"']
+        picks[0]["superfluous"], picks[1]["superfluous"] = ['"public"."old"'], ['"public"."needed"']
         self.document["warnings"] = [
             "statements that ran once have 33.3 % of the cost: --min-calls 2 leaves them out",
             "x",
@@ -145,12 +145,15 @@ class Summary(unittest.TestCase):
             lines[at + 1 : at + 3],
             [" 2.    0.2  t1(a, b): it saves 0.4 %", " 4.    0.2  t3(a, b, c, d): it would fail"],
         )
-        for it in (
+        for line in (
             'superfluous beside them: "public"."old"',
-            self.document["warnings"][0],
+            "warning: statements that ran once have 33.3 % of the cost: --min-calls 2 leaves them out",
+            "warning: x",
             "2 warnings, all else: /home/you/advice/details.txt",
         ):
-            self.assertIn(it, lines)
+            self.assertIn(line, lines)
+        self.document["warnings"] *= 2
+        self.assertNotIn("warning: x", self.verdict())
         for it in picks:
             it["caveat"] = "it saves 0.4 %"
         lines = self.verdict()
@@ -244,7 +247,7 @@ class Summary(unittest.TestCase):
         self.assertEqual(next_of(self.document | {"picks": []}, "x"), [])
         doubt = "the advice stands unless you distrust 'app', who may"
         lines = next_of(self.document | {"doubts": [doubt]}, "x")
-        self.assertEqual((len(lines), lines[-1]), (2, doubt))
+        self.assertEqual((len(lines), lines[-1]), (2, f"warning: {doubt}"))
         self.document["picks"][0].pop("build_seconds")
         self.assertTrue(next_of(self.document, "x")[0].startswith("to make them, let "))
 

@@ -62,13 +62,14 @@ def proof_of(document: dict[str, Any]) -> str:
 
 def next_of(document: dict[str, Any], script: str) -> list[str]:
     """Who may run the script, and how, where it makes something; and who may have faked what was counted."""
+    doubts = [f"warning: {it}" for it in document.get("doubts", [])]
     if not document["picks"]:
-        return [*document.get("doubts", [])]
+        return doubts
     known = [it["build_seconds"] for it in document["picks"] if it.get("build_seconds") is not None]
     time = f" in about {duration(sum(known))}" if known else ""
     commands = commands_of(document, script)
     whose = "their owner" if len(commands) < 2 else "the owner of each"
-    return [f"to make them{time}, let {whose} run: {'; '.join(commands)}", *document.get("doubts", [])]
+    return [f"to make them{time}, let {whose} run: {'; '.join(commands)}", *doubts]
 
 
 def commands_of(document: dict[str, Any], script: str) -> list[str]:

@@ -146,6 +146,9 @@ def headline(document: dict[str, Any]) -> str:
 def _head(document: dict[str, Any]) -> str:
     picks = document["picks"]
     size = f", {space(document['stored_pages'])} of {space(document['asked_pages'])}" if picks else ""
+    made = [it for it in picks if not it.get("caveat")]
+    if len(made) < len(picks):
+        size += f", of which {len(made)} recommended, {space(sum(it['stored_pages'] for it in made))}"
     what = f"database {document['database']!a}, {part_of(document)}"
     return f"{headline(document)}{size}: {what}; advised in {_seconds(sum(document['seconds'].values()))}"
 

@@ -36,11 +36,12 @@ def caveat_of(pick: dict[str, Any], document: dict[str, Any]) -> str:
         return "whether plans take it isn't known"
     saved = max(pick["saves"].get(it) or 0 for it in KINDS)
     if saved < LITTLE:
-        return f"it saves {percent(saved)}"
+        return f"it saves {percent(saved)} at most, by any measure"
     charged = -sum(min(0.0, it["ours"]) for it in pick["changes"])
-    gained = sum(max(0.0, it["ours"]) for it in pick["changes"])
+    # Where our model sees no gain, a charge is weighed against what the server saves.
+    gained = max(saved, sum(max(0.0, it["ours"]) for it in pick["changes"]))
     if charged > MOST_CHARGED * gained and is_judged(pick):
-        return f"writes take {share(charged, gained)} of what it saves" if gained else "it saves no read anything"
+        return f"writes take {share(charged, gained)} of what it saves"
     return doubt_of(pick) or warning_of(pick, document)
 
 

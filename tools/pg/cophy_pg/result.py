@@ -13,6 +13,7 @@ from cophy_pg.guesses import is_guessed, is_judged
 from cophy_pg.outcomes import ORDINARY, Outcome
 from cophy_pg.plans import Plans
 from cophy_pg.recommended import Recommended, caveat_of
+from cophy_pg.rewrite.parse import without_literals
 from cophy_pg.schema import Schema
 from cophy_pg.sizes import stored_size
 from cophy_pg.speed import Speed
@@ -192,7 +193,8 @@ class Result:
         verdict = next((it for it in self.judged.verdicts if it.number == at), None)
         return {
             "numbers": record.numbers,
-            "sql": given.text,
+            # A command that is skipped may hold a password.
+            "sql": without_literals(given.text) if record.found.skipped else given.text,
             "line": given.line or None,
             "role": given.role or None,
             "calls": given.calls,

@@ -17,6 +17,8 @@ from cophy_pg.speed import duration
 WIDTH, KEPT = 100, "\N{NO-BREAK SPACE}"
 SQL, LONGEST = 34, 40
 """So many characters of a statement are shown, and such a name of an index has others in its column."""
+MOST_WARNINGS = 2
+"""Where there are no more warnings, the summary has them, each up to what ends it."""
 MOST_UNADVISED = 3
 
 
@@ -99,13 +101,15 @@ def _unadvised(listed: list[tuple[int, dict[str, Any]]]) -> list[str]:
 def _rest(document: dict[str, Any], kept: Folder) -> list[str]:
     """What changes the advice, and how much there is to read beside it."""
     lines = []
-    if names := [*dict.fromkeys(name for it in document["picks"] for name in it.get("superfluous", []))]:
+    made = [it for it in document["picks"] if not it.get("caveat")] or document["picks"]
+    if names := [*dict.fromkeys(name for it in made for name in it.get("superfluous", []))]:
         lines += [f"superfluous beside them: {', '.join(names)}"]
     if much := much_skipped(document):
         what = "time" if measured(document) == "seconds" else "calls"
         lines += [f"no index is advised for skipped statements with {much} of the {what}"]
-    lines += [it for it in document["warnings"] if it.endswith(" leaves them out")]
-    count = len([*document["warnings"], *document.get("doubts", [])])
-    notes = [counted(count, "warning")] * bool(count)
+    warnings = [*document["warnings"], *document.get("doubts", [])]
+    shown = warnings if len(warnings) <= MOST_WARNINGS else [it for it in warnings if it.endswith(" leaves them out")]
+    lines += [f"warning: {it.partition('; ')[0]}" for it in shown]
+    notes = [counted(len(warnings), "warning")] * bool(warnings)
     notes += [f"{len(document['left_out'])} left out"] * bool(document["left_out"])
     return [*lines, f"{', '.join([*notes, 'all else'])}: {files.shown(kept.path(folder.DETAILS))}"]
