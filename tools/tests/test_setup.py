@@ -41,7 +41,10 @@ class Setup(InFolder):
         ran = self.call(self.server, "odd")
         self.assertRegex(ran.stderr, r"\Acophy-pg: statements have been counted for .* alone: a working day.*\n\Z")
         first, names, command = ran.stdout.splitlines()
-        self.assertRegex(first, r"\Acophy_advisor may read 'odd', where \d+ statements are counted\. Next:\Z")
+        self.assertRegex(
+            first,
+            r"\Acophy_advisor may read 'odd', where hypopg is in schema \S+ and \d+ statements are counted\. Next:\Z",
+        )
         self.assertEqual(names, f"export PGHOST={self.server.folder} PGDATABASE=odd PGUSER=cophy_advisor")
         self.assertTrue(command.endswith("cophy-pg advise --budget 2MB"), command)
         homes = "SELECT string_agg(e.extname || ' in ' || n.nspname, ', ' ORDER BY 1) FROM pg_extension e"

@@ -125,28 +125,32 @@ def _keep(host: str, port: str, secret: str) -> None:
     lines = files.read(name).decode(errors="surrogateescape").splitlines() if os.path.lexists(name) else []
     text = "\n".join([begin + secret, *(it for it in lines if not it.startswith(begin))]) + "\n"
     files.write([files.File(name, text.encode(errors="surrogateescape"))])
+    say(f"the password of {ROLE} is new, and stands in {files.shown(name)}")
 
 
 def _tell(server: Server, database: str, host: str, port: str) -> int:
     """Says what is there, what is missing, and the next command."""
-    count, has_hypopg = _counted(server), _has_hypopg(server)
-    if not has_hypopg:
+    count, home = _counted(server), _home(server)
+    if not home:
         say(HYPOPG)
-    if count is None or not has_hypopg:
+    if count is None or not home:
         say("call this again when that is done")
         return 1
     tell_short(server)
-    print(f"{ROLE} may read {database!a}, where {counted(count, 'statement')} are counted. Next:")
+    print(
+        f"{ROLE} may read {database!a}, where hypopg is in schema {home} and {counted(count, 'statement')} are counted. Next:"
+    )
     names = {"PGHOST": host, "PGPORT": port if port != "5432" else "", "PGDATABASE": database, "PGUSER": ROLE}
     print("export " + " ".join(f"{name}={shlex.quote(it)}" for name, it in names.items() if it))
     print(f"{shlex.quote(sys.argv[0])} advise --budget {fifth_of(int(server.value(_SIZE)))}")
     return 0
 
 
-def _has_hypopg(server: Server) -> bool:
+def _home(server: Server) -> str | None:
+    """The schema of hypopg, where it is there."""
     with suppress(ServerFault), server.savepoint():
-        return bool(home_of(server))
-    return False
+        return home_of(server)
+    return None
 
 
 def _counted(server: Server) -> int | None:
