@@ -138,7 +138,7 @@ def _tell(server: Server, database: str, host: str, port: str) -> int:
         return 1
     tell_short(server)
     print(
-        f"{ROLE} may read {database!a}, where hypopg is in schema {home} and {counted(count, 'statement')} are counted. Next:"
+        f"{ROLE} may read {database!a}, where hypopg is in schema {home!a} and {counted(count, 'statement')} are counted. Next:"
     )
     names = {"PGHOST": host, "PGPORT": port if port != "5432" else "", "PGDATABASE": database, "PGUSER": ROLE}
     print("export " + " ".join(f"{name}={shlex.quote(it)}" for name, it in names.items() if it))
