@@ -149,7 +149,7 @@ def _tell(server: Server, database: str, host: str, port: str) -> int:
 def _home(server: Server) -> str | None:
     """The schema of hypopg, where it is there."""
     with suppress(ServerFault), server.savepoint():
-        return home_of(server)
+        return home_of(server).strip('"')
     return None
 
 
