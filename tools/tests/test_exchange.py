@@ -172,6 +172,9 @@ class OverTheStandIn(InFolder):
         told.clear()
         searches.proved(500)
         self.assertEqual(told, ["search 1 of at most 1"])
+        self.assertIn(self.kept.read(folder.UNFINISHED).decode(), searches.texts.values())
+        searches.clear()
+        self.assertFalse(self.kept.has(folder.UNFINISHED))
 
     def test_the_curve_has_points_where_its_first_picks_come_in(self) -> None:
         sizes = {it.table: it.pages for it in self.program.advise(10**9).picks}

@@ -17,6 +17,7 @@ RULES, RULED = "rules.txt", "ruled.txt"
 VERIFY, KEPT, DDL, PLANS = "verify.json", "kept.txt", "indexes.sql", "plans.json"
 SUMMARY, RESULT, REPORT, COMMANDS = "summary.txt", "advice.json", "report.html", "commands.txt"
 CURVE, DETAILS = "curve.json", "details.txt"
+UNFINISHED = "unfinished.txt"
 CHANGES, CHANGES_JSON = "changes.txt", "changes.json"
 
 

@@ -116,6 +116,9 @@ class Searches:
             return tried[-1]
 
         found = filled(self.asked, advised, lambda it: stored_size(schema, it.picks))
+        # Where the run is broken off, this is left of it.
+        text = self.ruled[found.budget, lines] if lines else self.texts[found.budget]
+        self.kept.write({folder.UNFINISHED: text})
         self.progress(EXCHANGING)
         better = self._exchanged(schema, rules, found, tried)
         if better is None or self._prices().cost(better) >= found.cost:
@@ -230,8 +233,8 @@ class Searches:
             self.kept.clear(folder.RULES)
 
     def clear(self) -> None:
-        """Takes what is left of certificates away."""
-        self.kept.clear(*(f"{folder.CERTIFICATE}-{it}" for it in self.texts))
+        """Takes away what is left of certificates, and the advice of the last round."""
+        self.kept.clear(folder.UNFINISHED, *(f"{folder.CERTIFICATE}-{it}" for it in self.texts))
 
 
 def listed_in(rules: str) -> list[str]:
