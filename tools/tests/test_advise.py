@@ -86,7 +86,7 @@ class Advise(OverShop):
         self.assertEqual(
             total["statements"], ['CREATE INDEX CONCURRENTLY "sales_orders_total_idx" ON "sales"."orders" ("total");']
         )
-        self.assertEqual(found["owners"], ["cophy"])
+        self.assertEqual((found["owners"], {it["owner"] for it in found["picks"]}), (["cophy"], {"cophy"}))
         self.assertLess(found["server_cost"]["after"], found["server_cost"]["before"])
         self.assertEqual(found["server_cost"]["statements"], 4)
         second = found["statements"][1]
@@ -123,6 +123,9 @@ class Advise(OverShop):
         self.assertEqual(stat.S_IMODE(self.kept.stat().st_mode), 0o700)
         self.assertEqual({stat.S_IMODE(it.stat().st_mode) for it in self.kept.iterdir()}, {0o600})
         self.assertEqual(json.loads((self.kept / "advice.json").read_text()), self.first)
+        self.assertIn(
+            "the most of SELECT id FROM sales.orders WHERE total = ?", (self.kept / "indexes.sql").read_text()
+        )
         lines = (self.kept / "commands.txt").read_text().splitlines()
         kept = (self.kept / "kept.txt").read_text()
         for step in (shlex.split(it) for it in lines if it.startswith("cophy-pg") and " curve " not in it):

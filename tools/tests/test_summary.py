@@ -149,11 +149,13 @@ class Summary(unittest.TestCase):
             'superfluous beside them: "public"."old"',
             "warning: statements that ran once have 33.3 % of the cost: --min-calls 2 leaves them out",
             "warning: x",
-            "2 warnings, all else: /home/you/advice/details.txt",
+            "all else: /home/you/advice/details.txt",
         ):
             self.assertIn(line, lines)
         self.document["warnings"] *= 2
-        self.assertNotIn("warning: x", self.verdict())
+        lines = self.verdict()
+        self.assertNotIn("warning: x", lines)
+        self.assertIn("2 more warnings, all else: /home/you/advice/details.txt", lines)
         for it in picks:
             it["caveat"] = "it saves 0.4 %"
         lines = self.verdict()

@@ -4,6 +4,7 @@ from __future__ import annotations
 import argparse
 import json
 import os
+from collections import Counter
 from dataclasses import replace
 from datetime import UTC, datetime
 from typing import Any
@@ -97,7 +98,7 @@ class Run:
         self.searches = Searches(self.program, kept, words.budget, nodes, steps)
         self.rules = Rules()
         self.head: dict[str, Any] = {}
-        self.owners: dict[str, str | None] = {}
+        self.owners: dict[str, str] = {}
         self.warnings: list[str] = []
 
     def document(self) -> dict[str, Any]:
@@ -138,7 +139,7 @@ class Run:
         parts = (found.schema, workload, advice, choice, judged, plans, (none, kept, all_), reason, proved)
         self._tell_rest(found.schema, advice, choice, unused)
         self.head["knee"] = knee_of(points, none.total)
-        result = Result(*parts, self.head, told, self.steps.seconds)
+        result = Result(*parts, self.head, told, self.steps.seconds, owners=self.owners)
         self.steps.begin("recommending")
         with self.steps.step("recommend", "telling what is plainly worth it"):
             asked = {it.number for it in choice.advice.picks if self.rules.asks_for(it)}
@@ -147,16 +148,17 @@ class Run:
         if points:
             curve = [as_json_of_point(it, none.total) for it in points]
             self.folder.write({folder.CURVE: json.dumps(curve, indent=2) + "\n"})
-        document = result.document()
-        return document | {"picks": [it | {"owner": self.owners.get(it["table"])} for it in document["picks"]]}
+        return result.document()
 
     def _tell_owners(self, server: Server, schema: Schema, choice: Choice) -> None:
-        """Who owns the tables of the picks."""
+        """Who owns the tables of the picks, the owner of the most first."""
         picked = {it.table for it in choice.advice.picks}
         tables = [it for it in schema.tables.values() if it.shown in picked]
         with reading(server):
-            self.head["owners"] = owners_of(server, [it.oid for it in tables])
-            self.owners = {it.shown: next(iter(owners_of(server, [it.oid])), None) for it in tables}
+            found = owners_of(server, [it.oid for it in tables])
+        counts = Counter(found.values())
+        self.head["owners"] = sorted(counts, key=lambda it: (-counts[it], it))
+        self.owners = {it.shown: found[it.oid] for it in tables if it.oid in found}
 
     def _tell_rest(self, schema: Schema, advice: Advice, choice: Choice, unused: str | None) -> None:
         """Why the picks cost more than the bound, and why they leave space."""

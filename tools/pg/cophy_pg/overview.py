@@ -9,6 +9,7 @@ from cophy_pg.choice import ASKED, UNTAKEN
 from cophy_pg.closing import costs, last_of
 from cophy_pg.guesses import doubt_of, gains, is_judged, seconds_of, warning_of
 from cophy_pg.recommended import KINDS, LITTLE
+from cophy_pg.rewrite.parse import without_literals
 from cophy_pg.speed import duration
 from cophy_pg.unlimited import told, warning
 
@@ -120,10 +121,10 @@ def named(pick: dict[str, Any]) -> str:
 
 
 def gain_of(pick: dict[str, Any]) -> str:
-    """What a pick saves, by the server's planner where that judged it, and the statement that gains the most."""
+    """What a pick saves, by the server's planner where that judged it, and the statement that gains the most, without literals."""
     saves = pick["saves"]["server"] if is_judged(pick) else pick["saves"]["ours"]
     users = gains(pick)
-    return f"saves {percent(saves)}" + (f", the most of {short(users[0]['sql'])}" if users else "")
+    return f"saves {percent(saves)}" + (f", the most of {short(without_literals(users[0]['sql']))}" if users else "")
 
 
 def name_of(statement: dict[str, Any]) -> str:

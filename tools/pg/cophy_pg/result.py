@@ -41,6 +41,7 @@ class Result:
     head: dict[str, Any]
     told: dict[str, list[str]]
     seconds: dict[str, float] = field(default_factory=dict)
+    owners: dict[str, str] = field(default_factory=dict)
     recommended: Recommended | None = None
 
     def document(self) -> dict[str, Any]:
@@ -111,6 +112,7 @@ class Result:
                 "outcome": outcomes[it.pick.number].name,
                 "saves": self._saves(it),
                 "changes": self._changes(it),
+                "owner": self.owners.get(it.pick.table),
             }
             for it in self.reasons
         ]

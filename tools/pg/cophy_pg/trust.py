@@ -142,8 +142,8 @@ SELECT n.nspname::text, c.relname::text
 FROM reached r JOIN pg_catalog.pg_class c ON c.oid = r.oid JOIN pg_catalog.pg_namespace n ON n.oid = c.relnamespace
 WHERE pg_catalog.pg_has_role(session_user, c.relowner, 'MEMBER') ORDER BY 1, 2 LIMIT 1"""
 _OWNERS = """
-SELECT r.rolname::text FROM pg_catalog.pg_class c JOIN pg_catalog.pg_roles r ON r.oid = c.relowner
-WHERE c.oid = ANY(%s::pg_catalog.oid[]) GROUP BY 1 ORDER BY count(*) DESC, 1"""
+SELECT c.oid::pg_catalog.int8, r.rolname::text FROM pg_catalog.pg_class c JOIN pg_catalog.pg_roles r ON r.oid = c.relowner
+WHERE c.oid = ANY(%s::pg_catalog.oid[])"""
 
 
 class NotTrusted(ServerFault):
@@ -227,9 +227,9 @@ def refuse_owner(server: Server, names: Names, tables: Iterable[int]) -> None:
         raise NotTrusted(f"the owner of {'.'.join(map(ascii, owned[0]))}")
 
 
-def owners_of(server: Server, tables: Sequence[int]) -> list[str]:
-    """The roles that own tables, the owner of the most first."""
-    return [str(it[0]) for it in server.rows(_OWNERS, ([*tables],))]
+def owners_of(server: Server, tables: Sequence[int]) -> dict[int, str]:
+    """The role that owns each table."""
+    return {int(oid): str(owner) for oid, owner in server.rows(_OWNERS, ([*tables],))}
 
 
 def functions_of_users(server: Server, names: Names, tables: Iterable[int]) -> list[str]:

@@ -110,6 +110,7 @@ def _rest(document: dict[str, Any], kept: Folder) -> list[str]:
     warnings = [*document["warnings"], *document.get("doubts", [])]
     shown = warnings if len(warnings) <= MOST_WARNINGS else [it for it in warnings if it.endswith(" leaves them out")]
     lines += [f"warning: {it.partition('; ')[0]}" for it in shown]
-    notes = [counted(len(warnings), "warning")] * bool(warnings)
+    rest = len(warnings) - len(shown)
+    notes = [counted(rest, "more warning" if shown else "warning")] * bool(rest)
     notes += [f"{len(document['left_out'])} left out"] * bool(document["left_out"])
     return [*lines, f"{', '.join([*notes, 'all else'])}: {files.shown(kept.path(folder.DETAILS))}"]
