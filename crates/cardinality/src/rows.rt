@@ -4,7 +4,7 @@ ghost use Rattle.adv_base.specs.Named.{NamesBlock};
 ghost use Rattle.adv_base.specs.Parts as part;
 ghost use Rattle.adv_base.specs.Rows as row;
 ghost use Rattle.adv_base.specs.Sums as sum;
-ghost use Rattle.adv_base.specs.declared.limits.TheConstants.{MOST_ROWS};
+ghost use Rattle.adv_base.specs.declared.limits.TheConstants.{MOST_PAGES, MOST_ROWS};
 
 use crate::parts::part_of;
 use adv_base::{Block, Catalogue, Pred, Table, slot_table, times_part};
@@ -22,7 +22,7 @@ pub fn table_rows(table: &Table) -> u64
 pub fn table_pages(table: &Table) -> u64
     ensures exact { result ≡ row.table_pages table.now }
     ensures least { 1 ≤ result }
-    ensures most { result ≤ MOST_ROWS }
+    ensures most { result ≤ MOST_PAGES }
 {
     table.pages.max(1)
 }

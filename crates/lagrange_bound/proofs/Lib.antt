@@ -13,4 +13,4 @@ pub mod WrittenRents
 pub mod LeastPrices
 pub mod MadeLists
 pub mod ReachedRents
-pub mod TermLimits
+pub mod SummandLimits

@@ -91,10 +91,10 @@ value_of_costs programme budget fix multipliers costs = value_of_plans programme
 abbrev pub costs_at : Programme → ℕ → Fix → Multipliers → List ℕ
 costs_at programme budget fix multipliers = plan_costs (available_in (space_in programme budget) (node_of fix)) programme.parts multipliers.lambda
 
--- before the division, the terms of the value are below 10 ^ 37: what plans, what exists and what is in cost, and what the
--- node earns with the price of the budget
-abbrev pub AreTermsBelow : Programme → ℕ → Fix → Multipliers → Type 0
-AreTermsBelow programme budget fix multipliers =
+-- before the division, the two summands of the value are below 10 ^ 37: what plans, what exists and what is in cost,
+-- and what the node earns with the price of the budget
+abbrev pub AreSummandsBelow : Programme → ℕ → Fix → Multipliers → Type 0
+AreSummandsBelow programme budget fix multipliers =
     (65536 * (weighted_costs programme.parts (costs_at programme budget fix multipliers) + programme.kept) + paid_in_all programme fix multipliers < 10 ^ 37)
     × (earned_in_all programme budget fix multipliers + multipliers.mu * budget < 10 ^ 37)
 

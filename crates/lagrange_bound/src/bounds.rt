@@ -98,12 +98,13 @@ fn value_of(programme: &Programme, budget: u64, fix: &Fix, multipliers: &Multipl
 
 /// The Lagrangian value of a node for a space budget in pages, under multipliers: no fitting configuration below the node
 /// costs less, in thousandths of a page read. It is defined at every node, also where what is in doesn't fit. Of a
-/// programme that stands for a setting it is the setting's Lagrangian value. Takes no memory.
+/// programme that stands for a setting it is the setting's Lagrangian value. Each of the two numbers whose difference it is,
+/// in parts of 65536, is below 10^37. Takes no memory.
 pub fn bound(programme: &Programme, budget: u64, fix: &Fix, multipliers: &Multipliers) -> i128
     requires budget { budget ≤ MOST_PAGES }
     requires multipliers { AreMultipliers programme.now multipliers.now }
     ensures exact { result ≡ bounds.lagrangian programme.now budget fix.now multipliers.now }
-    ensures terms { bounds.AreTermsBelow programme.now budget fix.now multipliers.now }
+    ensures summands { bounds.AreSummandsBelow programme.now budget fix.now multipliers.now }
     ensures lagrangian { laws.IsLagrangianInEach programme.now budget fix.now multipliers.now result }
 {
     value_of(programme, budget, fix, multipliers)

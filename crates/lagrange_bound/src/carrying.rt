@@ -190,7 +190,7 @@ pub fn total(
     requires multipliers { AreMultipliers programme.now multipliers.now }
     requires terms { at.now.least ≡ bounds.costs_at programme.now budget fix.now multipliers.now }
     ensures exact { result ≡ bounds.lagrangian programme.now budget fix.now multipliers.now }
-    ensures terms { bounds.AreTermsBelow programme.now budget fix.now multipliers.now }
+    ensures summands { bounds.AreSummandsBelow programme.now budget fix.now multipliers.now }
 {
     let parts = programme.parts.as_slice();
     let costs = at.least.as_slice();

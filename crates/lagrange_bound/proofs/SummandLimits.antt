@@ -1,4 +1,4 @@
--- The terms of a Lagrangian value, before the division, are below 10 ^ 37: a rent counts for one candidate alone.
+-- The summands of a Lagrangian value, before the division, are below 10 ^ 37: a rent counts for one candidate alone.
 use Rattle.std.proofs.Common.{◌≡◌, ◌∙◌, inl, inr, ℕ, zero, suc, ◌+◌, ◌*◌, ◌<◌, ◌≤◌, ◌==◌, Bool, true, false, List, [], ◌∷◌, All, length, drop, refl, ap, arith}
 use Rattle.std.specs.Prelude.{if◌then◌else◌, slice_index_or}
 use Rattle.std.proofs.Math.Nat.{mul-add, mul-le-mul}
@@ -19,7 +19,7 @@ use Rattle.bip_model.specs.declared.programme.Programme.{Programme}
 use Rattle.bip_model.specs.declared.multipliers.Multipliers.{Multipliers}
 use Rattle.bip_model.specs.Values.{MOST_PLAN, part_grants}
 use Rattle.bip_model.specs.Views.{AreMultipliers, space_in, node_of, state_at}
-use Rattle.lagrange_bound.specs.Bounds.{grant_rents, slot_rents, part_rents, candidate_cost, candidate_rents, paid, earned, paid_in_all, earned_in_all, fits_at, costs_at, AreTermsBelow}
+use Rattle.lagrange_bound.specs.Bounds.{grant_rents, slot_rents, part_rents, candidate_cost, candidate_rents, paid, earned, paid_in_all, earned_in_all, fits_at, costs_at, AreSummandsBelow}
 use Rattle.lagrange_bound.specs.Rented.{weighted_costs}
 use Rattle.lagrange_bound.specs.inner.Limits.{MOST_CANDIDATE_COST, MOST_RENTS}
 use Rattle.lagrange_bound.proofs.RentedPrices.{AreRents, drop-rents}
@@ -162,10 +162,10 @@ paid-most programme fix multipliers page =
     omega (arith, own, most)) in
     omega (arith, all, few)
 
--- ## The terms
+-- ## The summands
 
-pub terms-below : (programme : Programme) (budget : ℕ) (fix : Fix) (multipliers : Multipliers) → budget ≤ MOST_PAGES → AreMultipliers programme multipliers → AreTermsBelow programme budget fix multipliers
-terms-below programme budget fix multipliers within are =
+pub summands-below : (programme : Programme) (budget : ℕ) (fix : Fix) (multipliers : Multipliers) → budget ≤ MOST_PAGES → AreMultipliers programme multipliers → AreSummandsBelow programme budget fix multipliers
+summands-below programme budget fix multipliers within are =
     let few : length programme.parts ≤ MOST_STATEMENTS = programme.limits.parts_most in
     let costs : List ℕ = costs_at programme budget fix multipliers in
     let each = plan_costs-most (available_in (space_in programme budget) (node_of fix)) programme.parts multipliers.lambda are.rents_most in
