@@ -37,13 +37,14 @@ fn answer<S: Shelf>(
     ensures puts { S.put_faults shelf.new ≡ S.put_faults shelf.old }
 {
     let inputs = inputs_of(alloc, shelf, command)?;
-    let opened = open(
+    let (opened, proposed) = open(
         alloc,
         bytes_at(&inputs.whole, 0),
         bytes_at(&inputs.whole, 1),
     )?;
     let setting = opened.setting();
-    let worked = work(alloc, shelf, command, inputs, &setting, opened.left_over)?;
+    let left_over = opened.left_over;
+    let worked = work(alloc, shelf, command, inputs, &setting, left_over, proposed)?;
     let text = text(alloc, &worked.done, words, Some(&setting))?;
     Ok(Reply {
         done: worked.done,

@@ -2,6 +2,7 @@
 ghost use Rattle.std.specs.Prelude.{◌≡◌, ◌≤◌, ℕ, List, Some, IfOk, IfErr, option_map};
 ghost use Rattle.adv_base.specs.Settings.{the_setting};
 ghost use Rattle.candidates.specs.Candidates.{AreCandidates};
+ghost use Rattle.candidates.specs.Growing.{IsProposed};
 ghost use Rattle.command_line.specs.CommandLine.{plain_command};
 ghost use Rattle.command_line.specs.Spellings.{IsInRange};
 ghost use Rattle.report.specs.Texts.{FitsSetting};
@@ -36,6 +37,7 @@ use crate::stop::Stop;
 use crate::worked::Worked;
 use adv_base::{Bytes, List, Setting};
 use adv_shelf::Shelf;
+use candidates::Proposed;
 use command_line::Command;
 use report::Role;
 use std::alloc::Global;
@@ -145,8 +147,8 @@ pub(crate) fn inputs_of<S: Shelf>(
     }
 }
 
-/// What a command gives over what was read for it and the setting of the first two files, whose workload proposes `left_over`
-/// indexes more, and the files that it puts for that.
+/// What a command gives over what was read for it and the setting of the first two files, whose workload proposes this, of which
+/// `left_over` indexes are no candidates, and the files that it puts for that.
 pub(crate) fn work<S: Shelf>(
     alloc: Global,
     shelf: &mut S,
@@ -154,10 +156,12 @@ pub(crate) fn work<S: Shelf>(
     inputs: Inputs,
     setting: &Setting<'_>,
     left_over: u64,
+    proposed: Proposed,
 ) -> Result<Worked, Stop>
     requires range { IsInRange (plain_command command.now) }
     requires read { HasRead (S.files shelf.old) (plain_command command.now) inputs }
     requires found { AreCandidates setting.now.cat.now setting.now.statements.now setting.now.shapes.now left_over }
+    requires proposed { IsProposed setting.now.cat.now setting.now.statements.now proposed }
     requires opened { IsSetting (input inputs.whole 0) (input inputs.whole 1) (the_setting setting.now) left_over }
     ensures gives { IfOk result (λ worked. GivesRead (S.files shelf.old) (plain_command command.now) inputs (the_setting setting.now) worked.done) }
     ensures puts { IfOk result (λ worked. meaning.PutsOver (plain_command command.now) inputs.whole (the_setting setting.now) worked.done (plain_puts worked.puts)) }
@@ -210,7 +214,7 @@ pub(crate) fn work<S: Shelf>(
         } => sweep::sweep(alloc, setting, first, step, count, nodes, cert),
         Command::Retune { budget, nodes, .. } => {
             let done = retune_workload::retune_workload(
-                alloc, setting, load, third, budget, nodes,
+                alloc, setting, proposed, load, third, budget, nodes,
             )?;
             Ok(Worked::alone(alloc, done))
         }

@@ -47,6 +47,7 @@ impl<'a> Session<'a> {
     ghost use Rattle.programme_parts.specs.Combinations.{AreFew};
     ghost use Rattle.bip_model.specs.declared.programme.Programme as declared;
     ghost use Rattle.programme_parts.specs.Laws.{IsProgrammeOf};
+    ghost use Rattle.candidates.specs.Growing.{IsProposed};
     ghost use Rattle.retune.specs.Sessions.{IsTuned, setting_of};
     ghost use Rattle.retune.specs.Steps as steps;
     ghost use Rattle.retune.specs.declared.fault.RetuneFault.TheVariants.{NoStatement};
@@ -64,10 +65,27 @@ impl<'a> Session<'a> {
         ensures few { IfOk result (λ _. AreFew cat.now statements) }
         ensures fault { IfErr result (steps.IsNewFault cat.now statements) }
     {
+        let proposed = Proposed::new(alloc, cat, statements.as_slice())?;
+        Session::over(alloc, cat, statements, proposed)
+    }
+
+    /// A session of statements that propose what is known already. Its errors are those of `new`.
+    pub fn over(
+        alloc: Global,
+        cat: &'a Catalogue,
+        statements: List<Statement>,
+        proposed: Proposed,
+    ) -> Result<Session<'a>, RetuneFault>
+        requires limits { SettingLimits cat.now statements [] }
+        requires proposed { IsProposed cat.now statements proposed }
+        ensures statements { IfOk result (λ session. session.statements ≡ statements) }
+        ensures cat { IfOk result (λ session. session.cat ≡ cat.now) }
+        ensures few { IfOk result (λ _. AreFew cat.now statements) }
+        ensures fault { IfErr result (steps.IsNewFault cat.now statements) }
+    {
         let statements = statements.items;
         let caches = caches_of(alloc, cat, statements.as_slice())?.items;
         let list = statements.as_slice();
-        let proposed = Proposed::new(alloc, cat, list)?;
         let (candidates, programme) = made(alloc, cat, list, caches.as_slice(), &proposed)?;
         Ok(Session {
             alloc,

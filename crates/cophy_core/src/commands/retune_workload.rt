@@ -5,6 +5,7 @@ ghost use Rattle.adv_base.specs.declared.limits.TheConstants.{MOST_FILE_BYTES, M
 ghost use Rattle.adv_base.specs.declared.workload.Statement as statements;
 ghost use Rattle.adv_base.specs.Named.{NamesWork};
 ghost use Rattle.adv_base.specs.Settings.{the_setting};
+ghost use Rattle.candidates.specs.Growing.{IsProposed};
 ghost use Rattle.edit_script.specs.Scripts as scripts;
 ghost use Rattle.edit_script.specs.declared.edit.TheConstants.{MOST_LINES};
 ghost use Rattle.programme_parts.specs.Combinations.{AreFew};
@@ -21,6 +22,7 @@ use crate::commands::remembered::{Remembered, earlier_of, numbers_now};
 use crate::stop::Stop;
 use adv_base::{Catalogue, List, NoMemory, Setting, Statement};
 use binder::{BindFault, bind};
+use candidates::Proposed;
 use edit_script::{Edit, Edits, ScriptFault, read_edits};
 use report::{Done, EditFault, Refusal, Tuned};
 use retune::{RetuneFault, Session};
@@ -343,8 +345,14 @@ fn script_of<'a>(alloc: Global, script: &'a [u8]) -> Result<Edits<'a>, Stop>
     }
 }
 
-/// A session of the statements of a setting, which were read from these bytes.
-fn session_of<'a>(alloc: Global, setting: &Setting<'a>, load: &[u8]) -> Result<Session<'a>, Stop>
+/// A session of the statements of a setting, which were read from these bytes and propose this.
+fn session_of<'a>(
+    alloc: Global,
+    setting: &Setting<'a>,
+    proposed: Proposed,
+    load: &[u8],
+) -> Result<Session<'a>, Stop>
+    requires proposed { IsProposed setting.now.cat.now setting.now.statements.now proposed }
     requires read { AreStatementsOf setting.now.cat.now load.now setting.now.statements.now }
     requires short { length load.now ≤ MOST_FILE_BYTES }
     ensures cat { IfOk result (λ session. session.cat ≡ setting.now.cat.now) }
@@ -354,7 +362,7 @@ fn session_of<'a>(alloc: Global, setting: &Setting<'a>, load: &[u8]) -> Result<S
 {
     let parsed = read_workload(alloc, load)?;
     let statements = bind(alloc, setting.cat, &parsed)?;
-    match Session::new(alloc, setting.cat, statements) {
+    match Session::over(alloc, setting.cat, statements, proposed) {
         Ok(session) => Ok(session),
         Err(RetuneFault::TooManyCombinations(number, count)) => {
             Err(Stop::Refused(Refusal::TooManyCombinations(number, count)))
@@ -369,16 +377,19 @@ fn session_of<'a>(alloc: Global, setting: &Setting<'a>, load: &[u8]) -> Result<S
 }
 
 /// The advice on a workload wherever the bytes of a script ask for it that changes the workload step by step, each over the
-/// candidates of the statements as they are there. The workload was read from the bytes `load`. Or the first refusal: a bad
-/// line of the script, a statement of the workload with too many combinations of interesting orders, an edit that can't be taken.
+/// candidates of the statements as they are there. The workload was read from the bytes `load`, and proposes this. Or the
+/// first refusal: a bad line of the script, a statement of the workload with too many combinations of interesting orders, an
+/// edit that can't be taken.
 pub(crate) fn retune_workload(
     alloc: Global,
     setting: &Setting<'_>,
+    proposed: Proposed,
     load: &[u8],
     script: &[u8],
     budget: u64,
     nodes: u32,
 ) -> Result<Done, Stop>
+    requires proposed { IsProposed setting.now.cat.now setting.now.statements.now proposed }
     requires read { AreStatementsOf setting.now.cat.now load.now setting.now.statements.now }
     requires short { length load.now ≤ MOST_FILE_BYTES }
     requires script_short { length script.now ≤ MOST_FILE_BYTES }
@@ -391,7 +402,7 @@ pub(crate) fn retune_workload(
     ensures stop { IfErr result (StopsAt (spec.Refuses script.now (the_setting setting.now))) }
 {
     let edits = script_of(alloc, script)?;
-    let mut session = session_of(alloc, setting, load)?;
+    let mut session = session_of(alloc, setting, proposed, load)?;
     let list = edits.list.as_slice();
     let all = advices(alloc, setting.cat, &mut session, list, budget, nodes)?;
     Ok(Done::Retuned(all))

@@ -2,6 +2,7 @@ use Rattle.std.proofs.Common.{sym, subst, rules}
 use Rattle.adv_base.specs.Settings.{TheSetting}
 use Rattle.adv_base.specs.Settings.{the_setting}
 use Rattle.candidates.specs.Candidates.{AreCandidates}
+use Rattle.candidates.specs.Growing.{IsProposed}
 use Rattle.command_line.specs.CommandLine.{plain_command, texts}
 use Rattle.cophy_core.specs.Files.{input, counts}
 use Rattle.cophy_core.specs.Endings.{plain_puts}
@@ -24,6 +25,10 @@ work-requires-clause-read g c = rw c.in_ok-inputs.ensures.files c.in_ok-inputs.e
 pub work-requires-clause-found : goal.work-requires-clause-found
 work-requires-clause-found g c =
     subst (λ (s : TheSetting). AreCandidates s.cat s.statements s.shapes c.in_ok-opened.opened.left_over) (sym c.setting-setting.ensures) c.in_ok-opened.ensures.setting.candidates_are
+
+pub work-requires-clause-proposed : goal.work-requires-clause-proposed
+work-requires-clause-proposed g c =
+    subst (λ (s : TheSetting). IsProposed s.cat s.statements c.in_ok-opened.proposed) (sym c.setting-setting.ensures) c.in_ok-opened.ensures.proposed
 
 pub work-requires-clause-opened : goal.work-requires-clause-opened
 work-requires-clause-opened g c =

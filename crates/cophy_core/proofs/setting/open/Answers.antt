@@ -1,8 +1,16 @@
-use Rattle.std.proofs.Common.{inl, inr}
+use Rattle.std.proofs.Common.{◌≤◌, List, [], length, All, inl, inr, arith}
+use Rattle.std.specs.Prelude.{sum_by}
+use Rattle.std.proofs.lemmas.List.Elements.{All-nil}
 use Rattle.std.proofs.lemmas.Result.{err_from_is_err_and}
+use Rattle.adv_base.specs.declared.catalogue.Catalogue.{Catalogue}
+use Rattle.adv_base.specs.declared.limits.TheConstants.{MOST_SLOTS_IN_ALL, MOST_STATEMENTS}
+use Rattle.adv_base.specs.declared.workload.Statement.{Statement}
+use Rattle.adv_base.specs.Limits.Settings.{SettingLimits, slot_count}
+use Rattle.adv_base.specs.Named.{NamesShape, NamesWork}
 use Rattle.binder.specs.declared.fault.BindFault.TheVariants as bind
 use Rattle.catalogue.specs.declared.fault.CatFault.TheVariants as cat
 use Rattle.report.specs.declared.done.Refusal.TheVariants.{Cat, Sql, Bind}
+use Rattle.retune.proofs.Found.{found-candidates, found-limits, proposed-keys}
 use Rattle.sql_reader.specs.declared.parsed.SqlFault.TheVariants as sql
 use Rattle.cophy_core.specs.Settings.{IsSettingRefusal}
 use Rattle.cophy_core.proofs.Stopped.{stops_at}
@@ -37,16 +45,27 @@ returns-in_err-statements-clause-stop c =
       };
     }))
 
-pub invariant_of-result : goal.invariant_of-result
-invariant_of-result c = record {
-  limits = record {
-    statements_most = c.in_ok-statements.ensures.most;
-    slots_most = c.in_ok-statements.ensures.few;
-    shapes_most = c.in_ok-found.ensures.few;
-    statements_named = c.in_ok-statements.ensures.named;
-    shapes_named = c.in_ok-found.ensures.named;
-  };
-}
+-- the limits of a setting without candidates
+bare : (cat : Catalogue) (statements : List Statement) → length statements ≤ MOST_STATEMENTS → sum_by (λ statement. slot_count statement.work) statements ≤ MOST_SLOTS_IN_ALL →
+    All (λ statement. NamesWork cat statement.work) statements → SettingLimits cat statements []
+bare cat statements most few named =
+    record { statements_most = most; slots_most = few; shapes_most = omega arith; statements_named = named; shapes_named = All-nil (NamesShape cat) }
+
+pub candidates-requires : goal.candidates-requires
+candidates-requires c =
+    let read = c.in_ok-statements in
+    let limits = bare c.in_ok-catalogue.catalogue read.statements read.ensures.most read.ensures.few read.ensures.named in
+    record { limits = proposed-keys c.in_ok-catalogue.catalogue read.statements c.in_ok-proposed.proposed limits (rw c.as_slice.ensures at c.in_ok-proposed.ensures) }
+
+pub invariant_of-opened : goal.invariant_of-opened
+invariant_of-opened c =
+    let read = c.in_ok-statements in
+    let limits = bare c.in_ok-catalogue.catalogue read.statements read.ensures.most read.ensures.few read.ensures.named in
+    record {
+      limits =
+          found-limits c.in_ok-catalogue.catalogue read.statements c.in_ok-proposed.proposed c.in_ok-found.found.list limits (rw c.as_slice.ensures at c.in_ok-proposed.ensures)
+          c.in_ok-found.ensures.list;
+    }
 
 pub returns-clause-setting : goal.returns-clause-setting
 returns-clause-setting c = record {
@@ -56,5 +75,11 @@ returns-clause-setting c = record {
     is_workload = c.in_ok-parsed.ensures.found;
     bound = rw c.in_ok-parsed.ensures.same_text at c.in_ok-statements.ensures.exact;
   };
-  candidates_are = record { proposed = rw c.as_slice.ensures at c.in_ok-found.ensures.list; not_unique = c.in_ok-found.ensures.not_unique; rest = rw c.as_slice.ensures at c.in_ok-found.ensures.left_over };
+  candidates_are =
+      let own = c.in_ok-found.ensures in
+      found-candidates c.in_ok-catalogue.catalogue c.in_ok-statements.statements c.in_ok-proposed.proposed c.in_ok-found.found.list c.in_ok-found.found.left_over
+      (rw c.as_slice.ensures at c.in_ok-proposed.ensures) own.list own.left_over own.not_unique;
 }
+
+pub returns-clause-proposed : goal.returns-clause-proposed
+returns-clause-proposed c = rw c.as_slice.ensures at c.in_ok-proposed.ensures

@@ -5,6 +5,7 @@ use Rattle.adv_base.specs.declared.workload.Statement.{Statement}
 use Rattle.binder.specs.Plain.{plain_statements}
 use Rattle.binder.specs.Statements.{statements_of}
 use Rattle.binder.specs.declared.fault.BindFault.TheVariants as bind
+use Rattle.candidates.specs.Growing.{IsProposed}
 use Rattle.programme_parts.specs.Combinations.{AreFew, IsFirstBeyond}
 use Rattle.report.specs.declared.done.Refusal.TheVariants.{Sql, Bind}
 use Rattle.sql_reader.specs.declared.parsed.SqlFault.TheVariants as sql
@@ -29,6 +30,16 @@ returns-in_err-statements-clause-stop c =
     let found : statements_of c.args.setting.now.cat.now c.in_ok-parsed.parsed.text.now c.in_ok-parsed.parsed.statements ≡ Ok (plain_statements c.args.setting.now.statements.now) =
     rw (c.in_ok-parsed.ensures.same_text, same) c.requires.read.bound in
     rw p.1 (stops_at (LacksProgramme (the_setting c.args.setting.now)) bind.Memory Bind c.in_err-statements.field-0.0 p.0 p.2 (λ apart. absurd (no_fault found (c.in_err-statements.ensures.exact apart))))
+
+pub over-requires-clause-proposed : goal.over-requires-clause-proposed
+over-requires-clause-proposed c =
+    let mine : AreStatementsOf c.args.setting.now.cat.now c.args.load.now c.in_ok-statements.statements = record {
+      parsed = c.in_ok-parsed.parsed.statements;
+      is_workload = c.in_ok-parsed.ensures.found;
+      bound = rw (sym c.in_ok-parsed.ensures.same_text) c.in_ok-statements.ensures.exact;
+    } in
+    subst (λ (xs : List Statement). IsProposed c.args.setting.now.cat.now xs c.args.proposed)
+    (sym (one_list c.args.setting.now.cat.now c.args.load.now c.in_ok-statements.statements c.args.setting.now.statements.now mine c.requires.read)) c.requires.proposed
 
 pub returns-in-Ok-clause-statements : goal.returns-in-Ok-clause-statements
 returns-in-Ok-clause-statements c =

@@ -1,7 +1,6 @@
-use Rattle.std.proofs.Common.{◌∙◌, subst}
-use Rattle.programme_parts.specs.Combinations.{AreFew}
+use Rattle.std.proofs.Common.{subst}
+use Rattle.candidates.specs.Growing.{IsProposed}
 use Rattle.retune.proofs.session.Session.new.Goals as goal
 
-pub returns-clause-few : goal.returns-clause-few
-returns-clause-few c =
-    subst (AreFew c.args.cat.now) (c.as_slice.ensures.value ∙ c.statements.view_is) c.in_ok-caches.ensures.few
+pub over-requires-clause-proposed : goal.over-requires-clause-proposed
+over-requires-clause-proposed c = rw c.as_slice.ensures at c.in_ok-proposed.ensures
