@@ -11,7 +11,7 @@ const KEPT: usize = 9;
 /// The same where the plan had too many sets.
 const KEPT_AGAIN: usize = 11;
 /// The nodes that trials have.
-pub(crate) const NODES: usize = 80;
+const NODES: usize = 80;
 
 /// The set that is named most, from a place to the end.
 fn most_used(uses: &[usize; MOST_SETS], from: usize, end: usize) -> usize {

@@ -154,7 +154,7 @@ impl Proposals {
             let tree = self.tree.as_mut_slice();
             self.planner
                 .begin_recalled(&task, &self.root, recalled, tree);
-            is_closed = self.planner.plan_retracing(&task, &mut self.finder, tree);
+            is_closed = self.planner.plan_retracing(&task, tree);
             self.tree.clear();
         }
         if !is_closed {

@@ -1,7 +1,5 @@
 //! Plans along the tree of an earlier answer, whose sets are recalled.
 
-use crate::again::NODES;
-use crate::finding::Finder;
 use crate::planner::{PlanNode, Planner, Settled, Task};
 use crate::trial::MOST_LEVELS;
 use bip_model::Fix;
@@ -10,6 +8,8 @@ use bip_model::Fix;
 const TIMES_ASKED: u64 = 2;
 
 const LEAST_ASKED: u64 = 200;
+/// The nodes below a leaf that its set doesn't close any more.
+const NODES: usize = 24;
 
 /// The place behind a subtree.
 fn behind(tree: &[PlanNode], place: usize) -> usize {
@@ -59,21 +59,16 @@ impl Planner {
         swap_sets(tree, 1, (best & 255) as u8);
     }
 
-    /// Plans along a tree with the sets that there are, and others where there is room; whether no leaf is left open and there are
-    /// no more sets than there may be.
-    pub(crate) fn plan_retracing(
-        &mut self,
-        task: &Task<'_>,
-        finder: &mut Finder,
-        tree: &[PlanNode],
-    ) -> bool {
+    /// Plans along a tree with the sets that there are; whether no leaf is left open and there are no more sets than there may
+    /// be.
+    pub(crate) fn plan_retracing(&mut self, task: &Task<'_>, tree: &[PlanNode]) -> bool {
         let most_asked = (tree.len() as u64).saturating_mul(TIMES_ASKED);
         let own = Task {
             most_asked: most_asked.max(LEAST_ASKED),
             ..*task
         };
         self.begin_anew();
-        let _ = self.retrace(&own, finder, tree, 0, MOST_LEVELS);
+        let _ = self.retrace(&own, tree, 0, MOST_LEVELS);
         !self.has_open && self.named() < task.most_sets
     }
 
@@ -82,7 +77,6 @@ impl Planner {
     fn retrace(
         &mut self,
         task: &Task<'_>,
-        finder: &mut Finder,
         tree: &[PlanNode],
         place: usize,
         levels: usize,
@@ -98,39 +92,41 @@ impl Planner {
         let node = tree[place];
         let next = place.saturating_add(1);
         if node.candidate == 0 {
-            self.plan_known_leaf(task, finder, node.set as usize);
+            self.plan_known_leaf(task, node.set as usize);
             return next;
         }
         let candidate = (node.candidate as usize).wrapping_sub(1);
         if self.path.is_choice(candidate) {
             let depth = self.path.depth();
             self.branch(task, candidate);
-            let outside = self.retrace(task, finder, tree, next, levels - 1);
+            let outside = self.retrace(task, tree, next, levels - 1);
             self.go_outside(task, candidate, depth);
-            let end = self.retrace(task, finder, tree, outside, levels - 1);
+            let end = self.retrace(task, tree, outside, levels - 1);
             self.go_back(task, depth);
             end
         } else if self.path.is_in(candidate) {
-            let outside = self.retrace(task, finder, tree, next, levels - 1);
+            let outside = self.retrace(task, tree, next, levels - 1);
             behind(tree, outside)
         } else {
-            self.retrace(task, finder, tree, behind(tree, next), levels - 1)
+            self.retrace(task, tree, behind(tree, next), levels - 1)
         }
     }
 
-    /// Plans below a leaf that a set closed.
-    fn plan_known_leaf(&mut self, task: &Task<'_>, finder: &mut Finder, set: usize) {
+    /// Plans below a leaf that a set closed, with no other sets: where these don't do, the whole tree is of little use.
+    fn plan_known_leaf(&mut self, task: &Task<'_>, set: usize) {
         if set < self.count {
             self.hint = set;
         }
         let start = self.start();
-        match self.settle(task, 3, usize::MAX) {
-            Settled::Closed => self.finish(task, start),
-            Settled::Full => self.leave_open(task, start),
-            Settled::Open(_) => {
-                self.plan_leaf(task, finder, None, NODES);
-                self.finish(task, start);
-            }
+        let is_closed = match self.settle(task, 3, usize::MAX) {
+            Settled::Closed => true,
+            Settled::Full => false,
+            Settled::Open(_) => self.close(task, NODES, None),
+        };
+        if is_closed {
+            self.finish(task, start);
+        } else {
+            self.has_open = true;
         }
     }
 }

@@ -9,6 +9,8 @@ const MOST_THINNED: usize = 200;
 const MOST_ROUNDED: usize = 60;
 /// The most spans of fixings that are tried.
 const MOST_SPANS: usize = 1024;
+/// The same where relaxations are rounded.
+const FEW_SPANS: usize = 24;
 
 /// In place of what isn't there.
 const NO_FIXING: Fixing = Fixing {
@@ -126,9 +128,10 @@ impl Planner {
         if self.fixings.len() <= start.fixings || !self.is_small(task, start.place) {
             return;
         }
+        let most = if task.rounds { FEW_SPANS } else { MOST_SPANS };
         self.spans.clear();
         let _ = self.spans.push((start.fixings, self.fixings.len()));
-        for _span in 0..MOST_SPANS {
+        for _span in 0..most {
             let Some((from, to)) = self.spans.pop() else {
                 return;
             };
