@@ -1,8 +1,8 @@
 -- Laws of what orders begin with.
-use Rattle.std.proofs.Common.{◌≡◌, ◌∙◌, ◌⊎◌, inl, inr, ℕ, ◌≤◌, [], ◌∷◌, ◌++◌, length, take, All, Decides, refl, sym, ap, subst, arith}
+use Rattle.std.proofs.Common.{◌≡◌, ◌∙◌, ◌⊎◌, inl, inr, ℕ, ◌≤◌, [], ◌∷◌, length, take, All, Decides, refl, sym, ap, subst, arith}
 use Rattle.std.proofs.lemmas.List.{take-take, length-take}
 use Rattle.std.proofs.lemmas.List.Elements.{All-take}
-use Rattle.std.proofs.lemmas.Bool.{cases_Bool, cases_lt, false≢true}
+use Rattle.std.proofs.lemmas.Bool.{cases_Bool, false≢true}
 use Rattle.adv_base.specs.declared.workload.parts.Item.{Item}
 use Rattle.adv_base.specs.Items.{Order, BeginsWith, is_same_order}
 use Rattle.adv_base.proofs.ItemLaws.{is_same_order-decides}
@@ -29,22 +29,11 @@ pub begins_longer : (o g f : Order) → BeginsWith o g → BeginsWith o f → le
 begins_longer o g f og of' le =
     ap (take (length f)) (sym og) ∙ take-take (length f) (length g) o le ∙ of'
 
-pub begins_compare : (o g f : Order) → BeginsWith o g → BeginsWith o f → BeginsWith g f ⊎ BeginsWith f g
-begins_compare o g f og of' =
-    elim (cases_lt (length g) (length f)) [
-      | inl shorter ↦ inr (begins_longer o f g of' og (omega arith))
-      | inr longer ↦ inl (begins_longer o g f og of' longer)
-    ]
-
 -- orders that begin with each other are the same
 pub begins_both : (o r : Order) → BeginsWith o r → BeginsWith r o → o ≡ r
 begins_both o r h g =
     let same : length o ≡ length r = omega (arith, begins_length o r h, begins_length r o g) in
     sym (begins_self o) ∙ ap (λ (n : ℕ). take n o) same ∙ h
-
-pub begins_front : (r o : Order) → BeginsWith (r ++ o) r
-begins_front [] o = refl
-begins_front (x ∷ xs) o = ap (λ (t : Order). x ∷ t) (begins_front xs o)
 
 -- what holds of an order's items holds of those that it begins with
 pub begins_all : (P : Item → Type 0) (o r : Order) → All P o → BeginsWith o r → All P r

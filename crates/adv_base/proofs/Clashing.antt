@@ -55,10 +55,6 @@ none_at_all shapes config n past none a b h =
     let within = member-within config (length config.on) b refl (and_parts (has_candidate config a) (has_candidate config b) members).1 in
     none a b (omega (arith, within, past)) h
 
--- no member is 0
-pub none_before_one : (shapes : List IndexShape) (config : Config) → NoneBefore shapes config 1
-none_before_one shapes config a b less h = omega (arith, h.ordered)
-
 -- ## The first clash is one
 
 all-three : (a b c : Bool) → a ≡ true → b ≡ true → c ≡ true → (a && b && c) ≡ true

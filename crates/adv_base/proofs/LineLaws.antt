@@ -1,7 +1,5 @@
 -- The first line of bytes.
-use Rattle.std.proofs.Common.{◌≡◌, ◌≢◌, ◌∙◌, ◌⊎◌, inl, inr, ℕ, zero, suc, ◌+◌, ◌<◌, ◌≤◌, List, [], ◌∷◌, ◌++◌, length, get_or, take, drop, sym, ap, subst, refl, arith, length-append}
-use Rattle.std.proofs.lemmas.Grind.{get_or_default_zero}
-use Rattle.std.proofs.lemmas.List.{length-take}
+use Rattle.std.proofs.Common.{◌≡◌, ◌≢◌, ◌∙◌, ◌⊎◌, inl, inr, ℕ, zero, suc, ◌+◌, ◌<◌, List, [], ◌∷◌, ◌++◌, length, get_or, take, drop, sym, ap, subst, refl, arith, length-append}
 use Rattle.adv_base.specs.Numbers.{BeginsWithLine}
 
 -- bytes from a place on, with the byte there
@@ -26,13 +24,6 @@ take-front (x ∷ xs) ys = ap (λ (zs : List ℕ). x ∷ zs) (take-front xs ys)
 drop-front : (xs ys : List ℕ) (y : ℕ) → drop (suc (length xs)) (xs ++ y ∷ ys) ≡ ys
 drop-front [] ys y = refl
 drop-front (x ∷ xs) ys y = drop-front xs ys y
-
-get-take : (xs : List ℕ) (n k d : ℕ) → k < n → get_or (take n xs) k d ≡ get_or xs k d
-get-take [] zero k d h = refl
-get-take [] (suc n) k d h = refl
-get-take (x ∷ xs) zero k d h = absurd (omega arith)
-get-take (x ∷ xs) (suc n) zero d h = refl
-get-take (x ∷ xs) (suc n) (suc k) d h = get-take xs n k d (omega arith)
 
 -- a byte of a line
 line-byte : (bytes line rest : List ℕ) → BeginsWithLine bytes line rest → (k : ℕ) → k < length line → get_or bytes k 0 ≢ 10
@@ -65,17 +56,6 @@ line-length bytes line rest len h before at =
           | inl same ↦ inl (ap suc same)
           | inr apart ↦ elim apart [ inl less ↦ inr (inl (omega arith)) | inr more ↦ inr (inr (omega arith)) ]
         ]
-
--- a line feed behind bytes that are none ends the first line
-pub line-is : (bytes : List ℕ) (len : ℕ) → len < length bytes → ((k : ℕ) → k < len → get_or bytes k 0 ≢ 10) → get_or bytes len 0 ≡ 10 →
-    BeginsWithLine bytes (take len bytes) (drop (len + 1) bytes)
-line-is bytes len within before at =
-    let short : length (take len bytes) ≤ len = omega (arith, length-take len bytes) in
-    let next : suc len ≡ len + 1 = omega arith in
-    record {
-      parts = cut-at bytes len 10 within at ∙ ap (λ (n : ℕ). take len bytes ++ 10 ∷ drop n bytes) next;
-      whole = λ k d h e. before k (omega arith) (sym (get_or_default_zero bytes k d (omega arith)) ∙ sym (get-take bytes len k d (omega arith)) ∙ e);
-    }
 
 -- and no other bytes are the first line
 pub line-only : (bytes line rest : List ℕ) (len : ℕ) → BeginsWithLine bytes line rest → ((k : ℕ) → k < len → get_or bytes k 0 ≢ 10) → get_or bytes len 0 ≡ 10 →

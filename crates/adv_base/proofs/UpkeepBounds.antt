@@ -1,6 +1,6 @@
 -- Bounds of upkeep. A statement's weighted upkeep of all indexes is at most (1000 + 256) * 6 * 10^24, so the sum over
 -- 1000 statements is far below 2^128.
-use Rattle.std.proofs.Common.{◌≡◌, ℕ, ◌+◌, ◌*◌, ◌<◌, ◌≤◌, ◌^◌, Bool, true, false, List, [], ◌∷◌, length, All, fold, refl, arith}
+use Rattle.std.proofs.Common.{◌≡◌, ℕ, ◌+◌, ◌*◌, ◌≤◌, Bool, true, false, List, [], ◌∷◌, length, All, fold, refl, arith}
 use Rattle.std.specs.Prelude.{if◌then◌else◌, sum_by, Option, Some, None}
 use Rattle.std.specs.Option.{option_map_or}
 use Rattle.std.proofs.Math.Nat.{mul-le-mul}
@@ -10,9 +10,8 @@ use Rattle.adv_base.specs.declared.catalogue.Catalogue.{Catalogue}
 use Rattle.adv_base.specs.declared.catalogue.index.Index.{Index}
 use Rattle.adv_base.specs.declared.catalogue.index.IndexShape.{IndexShape}
 use Rattle.adv_base.specs.declared.catalogue.table.Table.{Table}
-use Rattle.adv_base.specs.declared.limits.TheConstants.{MOST_ROWS, MOST_RATE, MOST_UPKEEP, MOST_INDEXES, MOST_CANDIDATES, MOST_STATEMENTS, MOST_WEIGHT}
+use Rattle.adv_base.specs.declared.limits.TheConstants.{MOST_ROWS, MOST_RATE, MOST_UPKEEP, MOST_INDEXES, MOST_CANDIDATES}
 use Rattle.adv_base.specs.declared.setting.Config.{Config}
-use Rattle.adv_base.specs.declared.workload.Statement.{Statement}
 use Rattle.adv_base.specs.declared.workload.Work.{Work}
 use Rattle.adv_base.specs.declared.workload.Work.TheVariants.{Select, Update, Delete, Insert}
 use Rattle.adv_base.specs.Configs.{candidates_in}
@@ -98,15 +97,3 @@ kept_upkeep-most cat weight work l =
     let whole = scaled (λ (table : Table). length table.indexes) MOST_UPKEEP cat.tables in
     let few : sum_by (λ (table : Table). length table.indexes) cat.tables ≤ MOST_INDEXES = cat.limits.indexes_most in
     omega (arith, each, whole, few)
-
--- what each of at most 1000 statements costs in upkeep, times its weight, sums to a number of 128 bits
-pub weighted_upkeep-most : (cat : Catalogue) (shapes : List IndexShape) (config : Config) (statements : List Statement) → length shapes ≤ MOST_CANDIDATES → length statements ≤ MOST_STATEMENTS →
-    sum_by (λ (s : Statement). s.weight * (kept_upkeep cat s.work + config_upkeep cat shapes config s.work)) statements < 2 ^ 128
-weighted_upkeep-most cat shapes config statements few most =
-    let each : (s : Statement) → s.weight * (kept_upkeep cat s.work + config_upkeep cat shapes config s.work) ≤ MOST_WEIGHT * ((MOST_INDEXES + MOST_CANDIDATES) * MOST_UPKEEP) = λ s.
-    let kept = kept_upkeep-most cat s.weight s.work s.limits in
-    let chosen_too = config_upkeep-most cat shapes config s.weight s.work s.limits few in
-    let both : kept_upkeep cat s.work + config_upkeep cat shapes config s.work ≤ (MOST_INDEXES + MOST_CANDIDATES) * MOST_UPKEEP = omega (arith, kept, chosen_too) in
-    mul-le-mul s.limits.weight_most both in
-    let all = sums-most (λ (s : Statement). s.weight * (kept_upkeep cat s.work + config_upkeep cat shapes config s.work)) (MOST_WEIGHT * ((MOST_INDEXES + MOST_CANDIDATES) * MOST_UPKEEP)) MOST_STATEMENTS statements each most in
-    omega (arith, all)

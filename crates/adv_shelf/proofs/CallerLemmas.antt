@@ -7,7 +7,7 @@ use Rattle.std.specs.Str.{bytes_eq}
 use Rattle.std.specs.Cmp.Lexicographic.{nat_list_cmp_total}
 use Rattle.std.specs.FinMap.{get, insert, get-insert}
 use Rattle.adv_shelf.specs.Faults.{Rose}
-use Rattle.adv_shelf.specs.Shelf.{Files, HasFile, IsFile}
+use Rattle.adv_shelf.specs.Shelf.{Files, HasFile}
 use Rattle.adv_shelf.specs.Sink.{append_to}
 
 -- a count that rose in a later call rose in both
@@ -20,16 +20,6 @@ at_end : (before between after : ℕ) (b : Bool) → nat_lt before after ≡ b �
     → between ≤ after → Rose before after
 at_end before between after true e first end keeps = inl (ltb-true before after e)
 at_end before between after false e first end keeps = inr (omega (arith, ltb-false before after e))
-
--- a count that rose in an earlier call rose in both
-pub rose_earlier : (before between after : ℕ) → before ≤ between → Rose before between → between ≤ after → Rose before after
-rose_earlier before between after first (inl more) keeps = inl (omega arith)
-rose_earlier before between after first (inr end) keeps = at_end before between after _ refl first end keeps
-
--- the bytes that are the file of a name, where the files are told
-pub told_file : (files : Option Files) (m : Files) (name bytes : List ℕ) → files ≡ Some m → IsFile files name bytes
-    → get m name ≡ Some bytes
-told_file files m name bytes told is = subst (λ f. IsFile f name bytes) told is
 
 -- a fact on the file of a name, where the files are told
 pub told_fact : (files : Option Files) (m : Files) (name bytes : List ℕ) (P : List ℕ → Type 0) → files ≡ Some m

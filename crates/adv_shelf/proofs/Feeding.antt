@@ -1,6 +1,6 @@
 -- A file that is handed on from its front.
-use Rattle.std.proofs.Common.{◌≡◌, ◌∙◌, ℕ, ◌+◌, ◌≤◌, List, [], ◌++◌, take, length, Option, sym, ap, subst, refl, length-append}
-use Rattle.std.proofs.lemmas.List.{append-nil, append_assoc, length-take-le, take-append-le}
+use Rattle.std.proofs.Common.{◌≡◌, ◌∙◌, ℕ, ◌+◌, ◌≤◌, List, ◌++◌, take, length, Option, sym, ap, subst, refl, length-append}
+use Rattle.std.proofs.lemmas.List.{append_assoc, length-take-le, take-append-le}
 use Rattle.adv_shelf.specs.Shelf.{Files, HasFile, IsRead}
 use Rattle.adv_shelf.specs.Taker.{GoesOn, IsFront}
 use Rattle.adv_shelf.proofs.Fronts.{front_goes_on}
@@ -10,11 +10,6 @@ pub record HasFed {T : Type 0} (files : Option Files) (name : List ℕ) (done : 
   pub front : IsFront files name bytes
   pub count : length bytes ≡ done
   pub grown : GoesOn StandsFor before bytes after
-
--- nothing yet
-pub fed_nothing : {T : Type 0} (files : Option Files) (name : List ℕ) (StandsFor : T → List ℕ → Type 0) (taker : T) → IsFront files name [] → HasFed files name 0 StandsFor taker taker []
-fed_nothing files name StandsFor taker front =
-    record { front = front; count = refl; grown = λ text stands. subst (StandsFor taker) (sym (append-nil text)) stands }
 
 -- one more piece
 pub feeds_on : {T : Type 0} (files now : Option Files) (name bytes buf rest : List ℕ) (done n : ℕ) (StandsFor : T → List ℕ → Type 0) (before between after : T) →

@@ -33,10 +33,6 @@ pub record AreExplored (setting : TheSetting) (budget : ℕ) (list : List Subpro
   pub costs : NoneCostsLess setting budget list after
   pub hopeful : (i : ℕ) (s : Subproblem) (a : ℕ) (inside outside : Tree) → slice_get list i ≡ Some s → s.tree ≡ Branches a inside outside → IsHopeful setting budget before list i s.node a
 
-pub none-explored : (setting : TheSetting) (budget level : ℕ) → AreExplored setting budget [] level level
-none-explored setting budget level =
-    record { falls = omega arith; costs = λ i s found fits. absurd (cc); hopeful = λ i s a inside outside found is. absurd (cc) }
-
 -- a node that is no branch
 pub leaf-explored : (setting : TheSetting) (budget : ℕ) (s : Subproblem) (before after : ℕ) → after ≤ before → ((a : ℕ) (inside outside : Tree) → s.tree ≡ Branches a inside outside → ⊥) →
     (Fits setting.cat setting.shapes s.node.inside budget → HasTotal setting s.node.inside (λ total. after ≤ total)) → AreExplored setting budget (s ∷ []) before after

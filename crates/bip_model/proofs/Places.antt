@@ -1,10 +1,9 @@
 -- A rent stands only where a candidate may be used; and how many rents there may be.
-use Rattle.std.proofs.Common.{◌≡◌, ◌∙◌, inl, inr, ℕ, suc, ◌+◌, ◌-◌, ◌*◌, ◌<◌, ◌≤◌, ◌==◌, Bool, true, false, cond, not, ◌&&◌, List, [], ◌∷◌, length, map, All, refl, sym, ap, subst, arith}
-use Rattle.std.specs.Prelude.{Some, filter, if◌then◌else◌, count_by, slice_get}
+use Rattle.std.proofs.Common.{◌≡◌, ◌∙◌, inl, inr, ℕ, suc, ◌+◌, ◌-◌, ◌*◌, ◌<◌, ◌≤◌, ◌==◌, Bool, true, false, cond, not, ◌&&◌, List, [], ◌∷◌, length, map, refl, sym, ap, subst, arith}
+use Rattle.std.specs.Prelude.{Some, filter, if◌then◌else◌, slice_get}
 use Rattle.std.specs.List.{enumerate_from}
 use Rattle.std.proofs.lemmas.Bool.{cases_Bool, eqb-true, and_parts}
 use Rattle.std.proofs.lemmas.List.{length-append, length-map}
-use Rattle.std.proofs.lemmas.List.Elements.{All-head, All-tail}
 use Rattle.adv_base.specs.declared.catalogue.index.IndexShape.{IndexShape}
 use Rattle.adv_base.specs.declared.limits.TheConstants.{MOST_ENTRIES}
 use Rattle.adv_base.specs.declared.workload.Statement.{Statement}
@@ -212,24 +211,6 @@ count-length (rent ∷ rents) = let rest = count-length rents in one (not (rent 
     one : (b : Bool) → total (λ (r : ℕ). cond (not (r == 0)) 1 0) rents ≤ length rents → cond b 1 0 + total (λ (r : ℕ). cond (not (r == 0)) 1 0) rents ≤ length (rent ∷ rents)
     one true rest = omega (arith, rest)
     one false rest = omega (arith, rest)
-
-total-most : (setting : TheSetting) (sets : List Multipliers) → KeepsLimits setting → All (AreMultipliersIn setting) sets →
-    total (λ (set : Multipliers). count_by (λ (rent : ℕ). not (rent == 0)) set.lambda) sets ≤ 512000 * length sets
-total-most setting [] limits are = omega arith
-total-most setting (set ∷ sets) limits are =
-    let rest = total-most setting sets limits (All-tail (AreMultipliersIn setting) set sets are) in
-    let own = All-head (AreMultipliersIn setting) set sets are in
-    let summed = sum-total (λ (rent : ℕ). cond (not (rent == 0)) 1 0) set.lambda in
-    omega (arith, rest, own.one_each, uses-most setting limits, summed, count-length set.lambda)
-
-pub entries-each : (setting : TheSetting) (sets : List Multipliers) → KeepsLimits setting → All (AreMultipliersIn setting) sets → entry_count sets ≤ 512000 * length sets
-entries-each setting sets limits are =
-    let summed = sum-total (λ (set : Multipliers). count_by (λ (rent : ℕ). not (rent == 0)) set.lambda) sets in
-    omega (arith, summed, total-most setting sets limits are)
-
--- two sets are never too many
-pub entries-few : (setting : TheSetting) (sets : List Multipliers) → KeepsLimits setting → All (AreMultipliersIn setting) sets → length sets ≤ 2 → entry_count sets ≤ MOST_ENTRIES
-entries-few setting sets limits are few = omega (arith, entries-each setting sets limits are, few)
 
 pub entries-most : (setting : TheSetting) (multipliers : Multipliers) → KeepsLimits setting → AreMultipliersIn setting multipliers → entry_count (multipliers ∷ []) ≤ MOST_ENTRIES
 entries-most setting multipliers limits are =

@@ -1,18 +1,17 @@
 -- A fix with one state written is a side of its node; with the state written back it is the node again.
-use Rattle.std.proofs.Common.{◌≡◌, ◌∙◌, ℕ, zero, suc, ◌-◌, ◌<◌, ◌≤◌, Bool, true, false, not, ◌&&◌, List, [], ◌∷◌, length, map, refl, sym, ap, arith}
-use Rattle.std.specs.Prelude.{Some, slice_get, slice_index_or, slice_set}
-use Rattle.std.proofs.lemmas.Bool.{false≢true, not-true, and_parts}
+use Rattle.std.proofs.Common.{◌≡◌, ◌∙◌, ℕ, zero, suc, ◌-◌, ◌≤◌, Bool, true, false, not, ◌&&◌, List, map, sym, ap, arith}
+use Rattle.std.specs.Prelude.{slice_index_or, slice_set}
+use Rattle.std.proofs.lemmas.Bool.{not-true, and_parts}
 use Rattle.adv_base.specs.declared.setting.Config.{Config}
 use Rattle.adv_base.specs.Configs.{has_candidate}
 use Rattle.adv_base.specs.Nodes as nodes
 use Rattle.adv_base.specs.Nodes.{is_free}
 use Rattle.plan_model.proofs.Renting.{flag-of}
 use Rattle.bip_model.specs.declared.fix.Fix.{Fix}
-use Rattle.bip_model.specs.declared.fix.State.{State}
-use Rattle.bip_model.specs.declared.fix.State.TheVariants.{Free, In, Out}
+use Rattle.bip_model.specs.declared.fix.State.TheVariants.{In, Out}
 use Rattle.bip_model.specs.Trees.{in_side, out_side}
 use Rattle.bip_model.specs.Views.{is_in, is_out, node_of}
-use Rattle.bip_model.proofs.Lists.{map-set, set-same, set-back}
+use Rattle.bip_model.proofs.Lists.{map-set, set-same}
 
 -- what is free is neither in nor out
 pub free-parts : (node : nodes.Node) (a : ℕ) → is_free node a ≡ true → (has_candidate node.inside a ≡ false) × (has_candidate node.outside a ≡ false)
@@ -28,12 +27,6 @@ flag-off config zero some off = absurd (omega (arith, some))
 flag-off config (suc i) some off =
     let same : suc i - 1 ≡ i = omega arith in
     ap (λ (k : ℕ). slice_index_or config.on k false) same ∙ sym (flag-of config i) ∙ off
-
-off-flag : (config : Config) (a : ℕ) → 1 ≤ a → slice_index_or config.on (a - 1) false ≡ false → has_candidate config a ≡ false
-off-flag config zero some off = absurd (omega (arith, some))
-off-flag config (suc i) some off =
-    let same : i ≡ suc i - 1 = omega arith in
-    flag-of config i ∙ ap (λ (k : ℕ). slice_index_or config.on k false) same ∙ off
 
 -- the node of flags
 abbrev flagged : List Bool → List Bool → nodes.Node
@@ -59,33 +52,3 @@ written-out old new a some free is =
     let inside : map is_in new.state ≡ map is_in old.state =
     ap (map is_in) is ∙ map-set is_in old.state (a - 1) Out ∙ set-same (map is_in old.state) (a - 1) off in
     flagged-same (map is_in new.state) (map is_in old.state) (map is_out new.state) (slice_set (map is_out old.state) (a - 1) true) inside outside
-
--- ## Free states
-
-in-off : (states : List State) (i : ℕ) → slice_get states i ≡ Some Free → (slice_index_or (map is_in states) i false ≡ false) × (slice_index_or (map is_out states) i false ≡ false)
-in-off [] i found = absurd (cc)
-in-off (state ∷ states) zero found = let same : state ≡ Free = cc in (ap is_in same, ap is_out same)
-in-off (state ∷ states) (suc i) found = in-off states i found
-
-pub state-free : (fix : Fix) (a : ℕ) → 1 ≤ a → slice_get fix.state (a - 1) ≡ Some Free → is_free (node_of fix) a ≡ true
-state-free fix a some found =
-    let off = in-off fix.state (a - 1) found in
-    parts-free (node_of fix) a (off-flag (node_of fix).inside a some off.0) (off-flag (node_of fix).outside a some off.1)
-
-off-in : (states : List State) (i : ℕ) → i < length states → slice_index_or (map is_in states) i false ≡ false → slice_index_or (map is_out states) i false ≡ false → slice_get states i ≡ Some Free
-off-in [] i within not_in not_out = absurd (omega (arith, within))
-off-in (state ∷ states) (suc i) within not_in not_out = off-in states i (omega (arith, within)) not_in not_out
-off-in (Free ∷ states) zero within not_in not_out = refl
-off-in (In ∷ states) zero within not_in not_out = absurd (false≢true (sym not_in))
-off-in (Out ∷ states) zero within not_in not_out = absurd (false≢true (sym not_out))
-
-pub free-state : (fix : Fix) (a : ℕ) → 1 ≤ a → a - 1 < length fix.state → is_free (node_of fix) a ≡ true → slice_get fix.state (a - 1) ≡ Some Free
-free-state fix a some within free =
-    let parts = free-parts (node_of fix) a free in
-    off-in fix.state (a - 1) within (flag-off (node_of fix).inside a some parts.0) (flag-off (node_of fix).outside a some parts.1)
-
--- the state that was written, and then Free again
-pub written-back : (old new : Fix) (a : ℕ) (state : State) → slice_get old.state (a - 1) ≡ Some Free → new.state ≡ slice_set (slice_set old.state (a - 1) state) (a - 1) Free → node_of new ≡ node_of old
-written-back old new a state found is =
-    let same : new.state ≡ old.state = is ∙ set-back old.state (a - 1) Free state found in
-    flagged-same (map is_in new.state) (map is_in old.state) (map is_out new.state) (map is_out old.state) (ap (map is_in) same) (ap (map is_out) same)

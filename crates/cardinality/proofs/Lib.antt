@@ -1,4 +1,3 @@
-pub mod Folds
 pub mod RowLemmas
 pub mod TableLemmas
 pub mod Bisections

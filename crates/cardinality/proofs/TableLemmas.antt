@@ -1,8 +1,8 @@
 -- Laws of tables of rows.
-use Rattle.std.proofs.Common.{◌≡◌, ℕ, ◌+◌, ◌<◌, List, [], ◌∷◌, ◌++◌, length, get_or, refl, sym, arith, inl, inr, length-append}
+use Rattle.std.proofs.Common.{◌≡◌, ℕ, ◌+◌, List, [], ◌∷◌, ◌++◌, length, get_or, refl, sym, arith, inl, inr, length-append}
 use Rattle.std.proofs.lemmas.Bool.{cases_lt}
 use Rattle.std.proofs.lemmas.Grind.{common_steps}
-use Rattle.std.proofs.lemmas.List.Elements.{All-push, All-nil, All-get_or}
+use Rattle.std.proofs.lemmas.List.Elements.{All-push, All-nil}
 use Rattle.adv_base.specs.declared.catalogue.Catalogue.{Catalogue}
 use Rattle.adv_base.specs.declared.workload.block.Block.{Block}
 use Rattle.adv_base.specs.Rows.{set_rows}
@@ -34,9 +34,3 @@ HoldsRows-empty cat block = record {
   exact = λ set within. let at : set ≡ 0 = omega arith in rw at (sym (set_rows-empty cat block));
   bounds = All-push AreRows [] 1 (All-nil AreRows) (record { least = omega arith; most = omega arith });
 }
-
--- a number at its place
-pub HoldsRows-at : (cat : Catalogue) (block : Block) (sets : ℕ) (of : List ℕ) → HoldsRows cat block sets of → (set : ℕ) → set < sets → AreRows (get_or of set 0)
-HoldsRows-at cat block sets of holds set within =
-    let count : length of ≡ sets = holds.count in
-    All-get_or AreRows of set 0 (omega arith) holds.bounds

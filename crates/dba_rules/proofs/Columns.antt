@@ -1,8 +1,7 @@
 -- Columns of an index, as a loop reads them.
-use Rattle.std.proofs.Common.{◌≡◌, ◌≢◌, ℕ, zero, suc, ◌-◌, ◌<◌, true, false, if◌then◌else◌, List, Result, Ok, Err, refl, sym, ◌∙◌, arith}
+use Rattle.std.proofs.Common.{◌≡◌, ℕ, zero, suc, ◌-◌, ◌<◌, false, if◌then◌else◌, List, Result, Ok, refl, sym, ◌∙◌, arith}
 use Rattle.adv_base.specs.Readings.{◌>>=◌}
 use Rattle.dba_rules.specs.declared.fault.RuleFault.{RuleFault}
-use Rattle.dba_rules.specs.declared.fault.RuleFault.TheVariants.{Memory}
 use Rattle.dba_rules.specs.Lines.{column_step, columns_from}
 
 abbrev Columns : Type 0
@@ -17,13 +16,3 @@ columns-more number (suc n) columns bytes some = let back : suc n - 1 ≡ n = om
 pub columns_go : (number n : ℕ) (columns more : Columns) (bytes rest : List ℕ) (total : Result (Columns × List ℕ) RuleFault) → 0 < n →
     column_step number columns bytes ≡ Ok (more, false, rest) → columns_from number n columns bytes ≡ total → columns_from number (n - 1) more rest ≡ total
 columns_go number n columns more bytes rest total some step so_far = sym (columns-more number n columns bytes some ∙ rw step refl) ∙ so_far
-
--- it ends behind the last one
-pub columns_end : (number n : ℕ) (columns more : Columns) (bytes rest : List ℕ) (total : Result (Columns × List ℕ) RuleFault) → 0 < n →
-    column_step number columns bytes ≡ Ok (more, true, rest) → columns_from number n columns bytes ≡ total → total ≡ Ok (more, rest)
-columns_end number n columns more bytes rest total some step so_far = sym so_far ∙ columns-more number n columns bytes some ∙ rw step refl
-
--- or where there is none
-pub columns_fail : (number n : ℕ) (columns : Columns) (bytes : List ℕ) (total : Result (Columns × List ℕ) RuleFault) (e : RuleFault) → 0 < n →
-    (e ≢ Memory → column_step number columns bytes ≡ Err e) → columns_from number n columns bytes ≡ total → e ≢ Memory → total ≡ Err e
-columns_fail number n columns bytes total e some step so_far real = sym so_far ∙ columns-more number n columns bytes some ∙ rw (step real) refl

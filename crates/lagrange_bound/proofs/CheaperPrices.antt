@@ -1,5 +1,5 @@
 -- Laws of prices that are below what exists, and of those that aren't.
-use Rattle.std.proofs.Common.{◌≡◌, ◌∙◌, ◌⊎◌, inl, inr, ℕ, zero, suc, ◌+◌, ◌<◌, ◌≤◌, Bool, true, false, ◌||◌, List, [], ◌∷◌, length, get_or, drop, min, refl, sym, ap, arith, add-one}
+use Rattle.std.proofs.Common.{◌≡◌, ◌∙◌, ◌⊎◌, inl, inr, ℕ, zero, suc, ◌+◌, ◌<◌, ◌≤◌, Bool, true, false, ◌||◌, List, [], ◌∷◌, length, get_or, drop, min, refl, sym, ap, arith}
 use Rattle.std.specs.Prelude.{Option, Some, None, if◌then◌else◌}
 use Rattle.std.specs.Option.{option_map}
 use Rattle.std.proofs.lemmas.Bool.{false≢true}
@@ -37,12 +37,6 @@ pub cheaper-found : (prices others : List (Option ℕ)) (n : ℕ) → n < length
     is_cheaper (get_or prices n None) (get_or others n None) ≡ true → true ≡ has_cheaper prices others
 cheaper-found prices others n within beside left found =
     ap (λ (b : Bool). b || has_cheaper (drop (suc n) prices) (drop (suc n) others)) (sym found) ∙ sym (cheaper-at prices others n within beside) ∙ left
-
-pub cheaper-next : (prices others : List (Option ℕ)) (n : ℕ) → n < length prices → n < length others → has_cheaper (drop n prices) (drop n others) ≡ has_cheaper prices others →
-    is_cheaper (get_or prices n None) (get_or others n None) ≡ false → has_cheaper (drop (n + 1) prices) (drop (n + 1) others) ≡ has_cheaper prices others
-cheaper-next prices others n within beside left fails =
-    ap (λ (k : ℕ). has_cheaper (drop k prices) (drop k others)) (add-one n)
-    ∙ ap (λ (b : Bool). b || has_cheaper (drop (suc n) prices) (drop (suc n) others)) (sym fails) ∙ sym (cheaper-at prices others n within beside) ∙ left
 
 -- ## What isn't cheaper
 

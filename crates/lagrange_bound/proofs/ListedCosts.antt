@@ -1,7 +1,7 @@
 -- Laws of plan costs by lists of prices.
-use Rattle.std.proofs.Common.{◌≡◌, ◌∙◌, inl, inr, ℕ, zero, suc, ◌+◌, ◌-◌, ◌<◌, ◌≤◌, ◌==◌, List, [], ◌∷◌, ◌++◌, length, get_or, take, drop, All, refl, sym, ap, subst, length-append, arith}
-use Rattle.std.specs.Prelude.{Option, Some, if◌then◌else◌, slice_get, slice_index_or, sum_by, unwrap_or}
-use Rattle.std.proofs.lemmas.List.{drop_all, drop_more, drop-drop, get_or-drop, get_or-map, get_or-take, length-drop, length-take-le, take_all}
+use Rattle.std.proofs.Common.{◌≡◌, ◌∙◌, inl, inr, ℕ, zero, suc, ◌+◌, ◌-◌, ◌<◌, ◌≤◌, List, [], ◌∷◌, ◌++◌, length, get_or, take, drop, All, refl, sym, ap, subst, length-append, arith}
+use Rattle.std.specs.Prelude.{Option, Some, slice_get, slice_index_or, sum_by, unwrap_or}
+use Rattle.std.proofs.lemmas.List.{drop-drop, get_or-drop, get_or-map, get_or-take, length-drop, length-take-le, take_all}
 use Rattle.std.proofs.lemmas.List.Sums.{sum_by-cons, sum_by_more, sum_by-take-le}
 use Rattle.std.proofs.lemmas.Option.{get_or_from_slice_get, slice_get_cases, slice_get_within}
 use Rattle.adv_base.specs.declared.setting.Config.{Config}
@@ -15,27 +15,11 @@ use Rattle.bip_model.proofs.Pricing.{get-some}
 use Rattle.bip_model.proofs.Lists.{front-of, back-of}
 use Rattle.lagrange_bound.specs.ListedPrices.{slots_of, orders_before, ArePrices}
 use Rattle.lagrange_bound.specs.Rented.{rented_price, grants_before, rented_cost, plan_costs}
-use Rattle.lagrange_bound.specs.declared.price_lists.CheaperPrice.{CheaperPrice}
 use Rattle.lagrange_bound.specs.declared.price_lists.PriceLists.{PriceLists}
-use Rattle.lagrange_bound.specs.inner.CostsByLists.{lowered, least_at, tails, AreLeast, HavePlaces, listed_cost, listed_costs}
+use Rattle.lagrange_bound.specs.inner.CostsByLists.{least_at, tails, AreLeast, HavePlaces, listed_cost, listed_costs}
 use Rattle.lagrange_bound.specs.inner.Rows.{AreRows}
 use Rattle.lagrange_bound.proofs.FlatSlots.{all-grants, sum-left, sum-right}
 use Rattle.lagrange_bound.proofs.RentedPrices.{AreRents, drop-rents, row_least-part}
-
--- ## Least prices
-
--- one cheaper price more
-pub lowered-step : (config : Config) (owners rents : List ℕ) (list : List CheaperPrice) (i p old new whole : ℕ) (cheaper : CheaperPrice) → i < length list → cheaper ≡ get_or list i cheaper →
-    new ≡ (if cheaper.place == p then lowered config owners rents cheaper old else old) →
-    least_at config owners rents p old (drop i list) ≡ whole → least_at config owners rents p new (drop (i + 1) list) ≡ whole
-lowered-step config owners rents list i p old new whole cheaper within is after before =
-    let rest : List CheaperPrice = drop (i + 1) list in
-    ap (λ (n : ℕ). least_at config owners rents p n rest) after
-    ∙ ap (λ (c : CheaperPrice). least_at config owners rents p (if c.place == p then lowered config owners rents c old else old) rest) is
-    ∙ sym (ap (least_at config owners rents p old) (drop_more list i cheaper within)) ∙ before
-
-pub lowered-done : (config : Config) (owners rents : List ℕ) (list : List CheaperPrice) (i p old whole : ℕ) → length list ≤ i → least_at config owners rents p old (drop i list) ≡ whole → old ≡ whole
-lowered-done config owners rents list i p old whole past before = sym (ap (least_at config owners rents p old) (drop_all i list past)) ∙ before
 
 -- ## Costs
 

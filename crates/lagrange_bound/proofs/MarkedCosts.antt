@@ -1,5 +1,5 @@
 -- Laws of plan costs of which some are priced anew.
-use Rattle.std.proofs.Common.{◌≡◌, ◌∙◌, ◌≢◌, inl, inr, ℕ, zero, suc, ◌+◌, ◌-◌, ◌*◌, ◌<◌, ◌≤◌, Bool, true, false, List, [], ◌∷◌, All, length, get_or, take, drop, refl, sym, ap, subst, arith, get_or-set_other}
+use Rattle.std.proofs.Common.{◌≡◌, ◌∙◌, ◌≢◌, inl, inr, ℕ, zero, suc, ◌+◌, ◌-◌, ◌*◌, ◌<◌, ◌≤◌, Bool, false, List, [], ◌∷◌, All, length, get_or, take, drop, refl, sym, ap, subst, arith, get_or-set_other}
 use Rattle.std.specs.Prelude.{Option, Some, slice_get, slice_set, sum_by}
 use Rattle.std.proofs.Math.Nat.{mul-le-mul}
 use Rattle.std.proofs.lemmas.Bool.{cases_eq, cases_Bool}
@@ -21,16 +21,6 @@ use Rattle.lagrange_bound.specs.inner.CostsAnew.{IsPriced}
 use Rattle.lagrange_bound.proofs.CarriedCosts.{IsSettled, SlotsSettled, length-plan_costs, all-more, rented_cost-settled}
 
 -- ## Flags
-
-pub keeps-all : (flags : List Bool) → Keeps flags flags
-keeps-all flags k on = on
-
-pub keeps-set : (flags : List Bool) (i : ℕ) → i < length flags → Keeps flags (slice_set flags i true)
-keeps-set flags i within k on =
-    elim (cases_eq k i) [
-      | inl same ↦ ap (λ (j : ℕ). get_or (slice_set flags i true) j false) same ∙ get_or-set_same flags i true false within
-      | inr other ↦ get_or-set_other flags i k true false other ∙ on
-    ]
 
 pub grant-kept : (old new : List Bool) (i : ℕ) (base : List (Option ℕ)) → Keeps old new → (grant : Grant) → IsNoted old i base grant → IsNoted new i base grant
 grant-kept old new i base keeps grant noted = λ cheaper. keeps ((grant.candidate - 1) * 1000 + i) (noted cheaper)

@@ -135,13 +135,6 @@ pub row-own : (config : Config) (slot : SlotPart) (rents : List ℕ) (n : ℕ) (
 row-own config slot rents n row few is = λ o below.
     is o below ∙ ap (λ (k : ℕ). word (rented_price config slot (take k rents) o)) few ∙ ap word (least_asked-take config o (price_of slot.base o) slot.grants rents)
 
--- a grant of a slot has a price for each order
-pub one-each : (slot : SlotPart) (grants : List Grant) (i : ℕ) (grant : Grant) → grants ≡ slot.grants → i < length grants → grant ≡ get_or grants i grant → length grant.prices ≡ length slot.base
-one-each slot grants i grant same within is =
-    let inside : i < length slot.grants = subst (λ (gs : List Grant). i < length gs) same within in
-    let own : grant ≡ get_or slot.grants i grant = is ∙ ap (λ (gs : List Grant). get_or gs i grant) same in
-    ap (λ (g : Grant). length g.prices) own ∙ slot.limits.one_each i grant inside
-
 -- the price that a template needs of a slot, told by its row
 told-needed : (config : Config) (slots : List SlotPart) (rents : List ℕ) (rows : List (List ℕ)) (template : Template) (n s : ℕ) → AreRents rents → AreRows config slots rents n rows → TemplateLimits slots template → s < n → s < length slots →
     told (slice_index_or (slice_index_or rows s []) (need template s) 0) ≡ needed_price config slots rents template s

@@ -98,17 +98,6 @@ has-below set n slot small h =
 
 -- ## Sums over sets
 
-part-same : (b : Bool) (x y : ℕ) → (b ≡ true → x ≡ y) → cond b x 0 ≡ cond b y 0
-part-same true x y h = h refl
-part-same false x y h = refl
-
-pub sum_over-same : (set : ℕ) (f g : ℕ → ℕ) (n : ℕ) → ((slot : ℕ) → slot < n → has_slot set slot ≡ true → f slot ≡ g slot) → sum_over set f n ≡ sum_over set g n
-sum_over-same set f g zero h = refl
-sum_over-same set f g (suc n) h =
-    let before : sum_over set f n ≡ sum_over set g n = sum_over-same set f g n (λ slot below has. h slot (omega (arith, below)) has) in
-    let here : cond (has_slot set n) (f n) 0 ≡ cond (has_slot set n) (g n) 0 = part-same (has_slot set n) (f n) (g n) (h n (omega arith)) in
-    omega (arith, before, here)
-
 part-joined : (here there whole : Bool) (f : ℕ → ℕ) (x y : ℕ) → (here ≡ true → whole ≡ true) → (there ≡ true → whole ≡ true) → (here ≡ true → there ≡ false) → (here ≡ false → there ≡ false → whole ≡ false) → cond whole (f (cond here x y)) 0 ≡ cond here (f x) 0 + cond there (f y) 0
 part-joined true true whole f x y left right apart neither = absurd (false≢true (sym (apart refl)))
 part-joined true false whole f x y left right apart neither = ap (λ t. cond t (f x) 0) (left refl) ∙ omega arith

@@ -110,11 +110,6 @@ one-lagrangian setting budget node multipliers first second a b =
     let more : List ℕ → ℕ = λ costs. 65536 * (weighted_sum setting.statements costs + weighted_kept setting) + costs_inside setting multipliers node 1 setting.shapes in
     one-rounded (more b.costs) less first second (subst (λ costs. IsRoundedUp (more costs) less first) same a.value_is) b.value_is
 
--- Two indexes of 3 and 4 pages save 67000 and 66000 of 80000 on statements of weights 10 and 11. Under a budget of 4 pages
--- that cost 2^33 / 65536 each, rents of 39321 and 47662 leave 677204.
-worked-value : IsRoundedUp (65536 * (10 * 52321 + 11 * 61662)) (0 + 8589934592 * 4) (pos 677204)
-worked-value = (omega arith, omega arith)
-
 -- ## No rents
 
 unrented-table : (setting : TheSetting) (config : Config) (block : Block) → charged_offers (λ slot candidate. 0) setting.cat block setting.shapes config ≡ offers setting.cat block setting.shapes config
