@@ -8,6 +8,7 @@ import pty
 import re
 import shlex
 import shutil
+import signal
 import stat
 import subprocess
 import tempfile
@@ -17,7 +18,7 @@ from pathlib import Path
 from typing import Any
 
 from fixtures import ADVISOR, COPHY, NO_HYPOPG, ROOT, STAND_IN, TOOL, OverShop, called
-from patience import LONG
+from patience import LONG, until
 from schema_check import faults
 
 SCHEMA = json.loads((ROOT / "tools" / "pg" / "cophy_pg" / "advice.schema.json").read_text())
@@ -32,6 +33,26 @@ FILES = (
     "advice.json advice.txt catalogue.toml certificate check.txt commands.txt curve.json details.txt export.txt indexes.sql kept.txt lint.txt "
     "plans.json ruled.txt rules.txt summary.txt verify.json workload.sql"
 ).split()
+HELD = f"""#!/usr/bin/python3 -IB
+import os, signal, sys, time
+from pathlib import Path
+signal.signal(signal.SIGINT, signal.SIG_DFL)
+if sys.argv[1:2] == ["whatif"] and Path(sys.argv[2]).with_name("unfinished.txt").exists():
+    if "FAULT" in os.environ:
+        print("refused")
+        sys.exit(2)
+    Path(__file__).with_name("held").touch()
+    time.sleep({LONG})
+os.execv({str(STAND_IN)!r}, [{str(STAND_IN)!r}, *sys.argv[1:]])
+"""
+"""A program that sleeps while picks are exchanged, or refuses to price them."""
+LATE = f"""import functools, itertools, sys
+sys.path[:0] = {[str(ROOT / "tools" / it) for it in ("pg", "lint", "common")]!r}
+from cophy_pg import advise, main
+advise.Searches = functools.partial(advise.Searches, clock=itertools.count(0, 31).__next__)
+sys.exit(main.main())
+"""
+"""The tool with a clock by which half a minute is over whenever it is looked at."""
 HAS_JINJA = importlib.util.find_spec("jinja2") is not None
 HAS_RICH = importlib.util.find_spec("rich") is not None
 
@@ -284,6 +305,49 @@ class Advise(OverShop):
         self.call(*words, "1MB", status=1, COPHY_PROGRAM="/bin/false")
         self.assertFalse((self.found / "advice.json").exists())
         self.call(*words, "1MB", "--since", str(self.sql), status=1)
+
+    def test_what_is_broken_off_leaves_what_the_last_round_advised(self) -> None:
+        program, held = self.lay_program(HELD), self.folder / "held"
+        words = [str(TOOL), "advise", "--sql", str(self.sql), "--budget", "20MB", "--folder", str(self.found)]
+        ends: list[tuple[int, list[str]]] = [(signal.SIGINT, ["--include"]), (signal.SIGTERM, []), (0, [])]
+        for number, more in ends:
+            given = {"PGUSER": "cophy_advisor", "COPHY_PROGRAM": program} | ({} if number else {"FAULT": "1"})
+            with subprocess.Popen(
+                [*words, *more],
+                stdout=subprocess.DEVNULL,
+                stderr=subprocess.PIPE,
+                text=True,
+                env=self.server.environment("shop", **given),
+                start_new_session=True,
+            ) as ran:
+                if number:
+                    until(held.exists, "picks are exchanged")
+                    os.killpg(ran.pid, number)
+                said = ran.communicate(timeout=LONG)[1]
+            with self.subTest(number=number):
+                self.assertEqual(ran.returncode, 128 + number if number else 1)
+                left = ["catalogue.toml", "export.txt", "lint.txt", "unfinished.txt", "workload.sql"]
+                self.assertEqual(sorted(it.name for it in self.found.iterdir()), left)
+                told = f"what the last round advised is in {self.found}/unfinished.txt; a script that makes it: "
+                self.assertIn(told, said)
+                command = shlex.split(said.partition(told)[2].splitlines()[0])
+                self.assertEqual((command[:2], "--include" in command), (["cophy-pg", "ddl"], bool(more)))
+                self.assertIn('ON "sales"."orders" ("total")', self.call(*command[1:]).stdout)
+            held.unlink(missing_ok=True)
+        self.advise()
+        self.assertFalse((self.found / "unfinished.txt").exists())
+
+    def test_it_is_told_once_where_there_was_no_time_for_all_exchanges(self) -> None:
+        words = ["advise", "--sql", str(self.sql), "--budget", "20MB", "--folder", str(self.found), "--json"]
+        given = self.server.environment("shop", PGUSER="cophy_advisor", **self.given)
+        ran = subprocess.run(
+            ["/usr/bin/python3", "-IB", "-c", LATE, *words], capture_output=True, text=True, env=given, timeout=LONG
+        )
+        self.assertEqual(ran.returncode, 0, ran.stderr)
+        cut = "picks were exchanged for others for a limited time only, so others may cost less in the same space"
+        self.assertEqual(json.loads(ran.stdout)["warnings"].count(cut), 1)
+        self.assertEqual((self.found / "details.txt").read_text().count(f"warning: {cut}\n"), 1)
+        self.assertNotIn(cut, self.first["warnings"])
 
     def test_a_role_with_powers_is_refused_before_anything_is_made(self) -> None:
         words = ("advise", "--sql", str(self.sql), "--budget", "1MB", "--folder", str(self.found))

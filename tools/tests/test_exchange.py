@@ -4,7 +4,7 @@ from __future__ import annotations
 import random
 import sys
 import unittest
-from collections.abc import Sequence
+from collections.abc import Callable, Sequence
 from pathlib import Path
 
 from cophy_text.answers import Candidate
@@ -19,9 +19,21 @@ if not NO_PARSER:
     from cophy_pg.pricing import Chosen, Pricing
     from cophy_pg.program import Program
     from cophy_pg.progress import Progress
-    from cophy_pg.searches import EXCHANGING, MOST_SEARCHES, Rules, Searches
+    from cophy_pg.searches import EXCHANGING, LEAST_SECONDS, MOST_SEARCHES, Rules, Searches
     from cophy_pg.sizes import stored_size
     from cophy_text.rules import read_rule
+
+    class Slow(Program):
+        """A program whose commands take so many seconds of a clock each."""
+
+        def __init__(self, own: Program, seconds: dict[str, int]) -> None:
+            super().__init__(own.file, own.catalogue, own.workload)
+            self.seconds, self.now, self.asked = seconds, 0, list[str]()
+
+        def text(self, command: str, *more: str) -> str:
+            self.now += self.seconds.get(command, 0)
+            self.asked.append(command)
+            return super().text(command, *more)
 
     class Made(Pricing):
         """Prices of statements each of which takes the best of its indexes; each index has an upkeep."""
@@ -34,7 +46,7 @@ if not NO_PARSER:
             gains = (max((it.get(number, 0) for number in chosen), default=0) for it in self.saved)
             return 100 * len(self.saved) - sum(gains) + sum(self.upkeep[it] for it in chosen)
 
-        def costs(self, base: Chosen, sets: Sequence[Chosen]) -> list[int]:
+        def costs(self, base: Chosen, sets: Sequence[Chosen], goes_on: Callable[[], bool] = lambda: True) -> list[int]:
             return [self.cost(it) for it in sets]
 
 
@@ -168,13 +180,50 @@ class OverTheStandIn(InFolder):
             numbers = [int(it.split()[1]) for it in told if it.endswith(f" of at most {MOST_SEARCHES}")]
             self.assertEqual(numbers, [*range(1, len(numbers) + 1)])
             self.assertGreater(len(numbers), 1)
-            self.assertEqual({*told} - {f"search {it} of at most {MOST_SEARCHES}" for it in numbers}, {EXCHANGING})
+            others = {*told} - {f"search {it} of at most {MOST_SEARCHES}" for it in numbers}
+            self.assertTrue(all(it.startswith(EXCHANGING) for it in others), others)
+            self.assertEqual(told.count(EXCHANGING), 1)
         told.clear()
         searches.proved(500)
         self.assertEqual(told, ["search 1 of at most 1"])
         self.assertIn(self.kept.read(folder.UNFINISHED).decode(), searches.texts.values())
         searches.clear()
-        self.assertFalse(self.kept.has(folder.UNFINISHED))
+        self.assertEqual([it.name for it in Path(self.kept.name).glob(f"{folder.CERTIFICATE}-*")], [])
+
+    def test_exchanging_stops_in_time_with_what_it_found(self) -> None:
+        schema, told = read_schema(self.kept.read(folder.CATALOGUE)), list[str]()
+        progress = type("Told", (Progress,), {"__call__": lambda _, text: told.append(text)})()
+        found = dict[tuple[int, int], tuple[int, int, Searches]]()
+        for seconds in ((0, 0), (0, 8), (1, 8), (1000, 8)):
+            program = Slow(self.program, dict(zip(("advise", "whatif"), seconds)))
+            searches = Searches(program, self.kept, 500, (), progress, clock=lambda: program.now)
+            advice, _ = searches.filling(schema, Rules())
+            found[seconds] = (program.asked.count("whatif"), advice.cost, searches)
+        every, least, _ = found[0, 0]
+        self.assertGreater(8 * every, LEAST_SECONDS + 16)
+        self.assertIn(f"{EXCHANGING}, 4 sets priced", told)
+        for seconds, (count, cost, searches) in found.items():
+            with self.subTest(seconds=seconds):
+                self.assertEqual(searches.is_cut, seconds in ((0, 8), (1, 8)))
+                # The fourth is asked for when 24 seconds are over; one more tells what that is worth which was found.
+                self.assertIn(count, (4, 5) if searches.is_cut else (every,))
+                self.assertGreaterEqual(cost, least)
+                if not searches.is_cut:
+                    self.assertEqual(cost, least)
+
+    def test_where_there_is_no_time_to_tell_nothing_is_said_of_space(self) -> None:
+        schema = read_schema(self.kept.read(folder.CATALOGUE))
+        every = self.program.advise(10**9).picks
+        some = [it for it in every if it.table != "large"]
+        for seconds in (0, int(LEAST_SECONDS) + 1):
+            program = Slow(self.program, {"whatif": seconds})
+            searches = Searches(program, self.kept, 10**6, (), Progress(), clock=lambda: program.now)
+            told = [searches.unused(schema, Rules(), it, []) for it in (every, some)]
+            self.assertIsNone(told[1])
+            if seconds:
+                self.assertIsNone(told[0])
+            else:
+                self.assertIn("no other index that fits saves anything", str(told[0]))
 
     def test_the_curve_has_points_where_its_first_picks_come_in(self) -> None:
         sizes = {it.table: it.pages for it in self.program.advise(10**9).picks}

@@ -18,7 +18,7 @@ from cophy_pg.catalogue import read_schema
 from cophy_pg.choice import Choice
 from cophy_pg.closing import ending
 from cophy_pg.clustering import permit
-from cophy_pg.commands import commands_text
+from cophy_pg.commands import commands_text, unless_broken_off
 from cophy_pg.curve import as_json as as_json_of_point
 from cophy_pg.folder import Folder
 from cophy_pg.folding import Folding
@@ -40,7 +40,7 @@ from cophy_pg.rewrite import Rewriter
 from cophy_pg.rewrite.options import options_of
 from cophy_pg.rounds import Rounds
 from cophy_pg.schema import Schema
-from cophy_pg.searches import Rules, Searches, listed_in
+from cophy_pg.searches import CUT, Rules, Searches, listed_in
 from cophy_pg.selection import ran_once, selection_of
 from cophy_pg.server import Server, connected, reading, version_of
 from cophy_pg.sizes import stored_size
@@ -72,12 +72,13 @@ def advise(words: argparse.Namespace) -> int:
         files.read(name)
     kept = Folder.made(words.folder)
     files.check([kept.path(it) for it in (folder.CATALOGUE, folder.WORKLOAD, folder.RESULT)], given)
-    with kept.unless_empty(), Steps(words.json).all() as steps:
-        document = Run(words, kept, steps).document()
-    details = "\n".join([*lines_of(document), *ending(document, kept)]) + "\n"
-    text = details if words.verbose else "\n".join(verdict(document, kept)) + "\n"
-    result = json.dumps(document, indent=2) + "\n"
-    kept.write({folder.RESULT: result, folder.SUMMARY: text, folder.DETAILS: details})
+    with kept.unless_empty(), unless_broken_off(words, kept):
+        with Steps(words.json).all() as steps:
+            document = Run(words, kept, steps).document()
+        details = "\n".join([*lines_of(document), *ending(document, kept)]) + "\n"
+        text = details if words.verbose else "\n".join(verdict(document, kept)) + "\n"
+        result = json.dumps(document, indent=2) + "\n"
+        kept.write({folder.RESULT: result, folder.SUMMARY: text, folder.DETAILS: details})
     try:
         kept.write({folder.REPORT: page_of(kept)})
     except NoReport as fault:
@@ -134,7 +135,7 @@ class Run:
             all_ = self.program.whatif(it.number for it in advice.picks)
         # In a file of SQL a statement has the weight that it was given.
         warnings = [*self.warnings, *self.rules.remarks, *([] if self.words.sql else ran_once(workload, none))]
-        warnings += [UNPROVED] * is_unproved(self.words.program)
+        warnings += [UNPROVED] * is_unproved(self.words.program) + [CUT] * self.searches.is_cut
         told = {"warnings": warnings, "lint": lint, "rewriting": summary(workload), "rules": listed_in(choice.rules)}
         parts = (found.schema, workload, advice, choice, judged, plans, (none, kept, all_), reason, proved)
         self._tell_rest(found.schema, advice, choice, unused)

@@ -3,11 +3,13 @@ from __future__ import annotations
 
 import argparse
 import shlex
-from collections.abc import Sequence
+from collections.abc import Iterator, Sequence
+from contextlib import contextmanager
 
 from cophy_text.files import shown
 from cophy_pg import clustering, folder
 from cophy_pg.folder import Folder
+from cophy_pg.progress import say
 from cophy_pg.rewrite.options import words_of
 
 
@@ -25,7 +27,6 @@ def commands_text(
     nodes = ["--nodes", str(words.nodes)] if words.nodes else []
     trusted = ["--i-trust-the-statements"] if words.is_trusted else []
     advice, certificate, curve = kept.path(folder.ADVICE), kept.path(folder.CERTIFICATE), kept.path(folder.CURVE)
-    included = ["--include", both[1]] if words.include else []
     ordered = ["--order", ",".join(map(str, order))] if len(order) > 1 else []
     ordered += ["--unadvised", ",".join(map(str, unadvised))] if unadvised else []
     ruled: list[list[str]] = []
@@ -40,7 +41,7 @@ def commands_text(
         *ruled,
         ["cophy-pg", "verify", *both, advice, *chosen, *trusted, "--advice", kept.path(folder.KEPT)],
         ["cophy-pg", "why", *both, kept.path(folder.KEPT)],
-        ["cophy-pg", "ddl", both[0], kept.path(folder.KEPT), "--script", *included, *ordered],
+        [*_script_of(words, kept, folder.KEPT), *ordered],
         ["cophy-pg", "curve", *both, "--json"],
         ["cophy-pg", "report", kept.name],
     ]
@@ -49,6 +50,27 @@ def commands_text(
         f"# What cophy {'ruled' if ruled else 'advise'} prints goes to {shown(advice)}, what curve prints to {shown(curve)}.",
     ]
     return "\n".join([*head, *map(shlex.join, steps)]) + "\n"
+
+
+@contextmanager
+def unless_broken_off(words: argparse.Namespace, kept: Folder) -> Iterator[None]:
+    """Says what is left of a run that is broken off; where it ends well, that goes."""
+    try:
+        yield
+    except BaseException:
+        if kept.has(folder.UNFINISHED):
+            kept.clear(*[folder.RULES] * (not kept.has(folder.RULED)))
+            command = shlex.join(_script_of(words, kept, folder.UNFINISHED))
+            found = shown(kept.path(folder.UNFINISHED))
+            say(f"broken off: what the last round advised is in {found}; a script that makes it: {command}")
+        raise
+    kept.clear(folder.UNFINISHED)
+
+
+def _script_of(words: argparse.Namespace, kept: Folder, advice: str) -> list[str]:
+    """What prints the script of an advice in the folder."""
+    included = ["--include", kept.path(folder.WORKLOAD)] if words.include else []
+    return ["cophy-pg", "ddl", kept.path(folder.CATALOGUE), kept.path(advice), "--script", *included]
 
 
 def _chosen(words: argparse.Namespace) -> list[str]:

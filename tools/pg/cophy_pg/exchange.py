@@ -1,7 +1,7 @@
 """Picks exchanged so that the workload costs less in the same space, as PostgreSQL stores them and not as the model counts."""
 from __future__ import annotations
 
-from collections.abc import Iterable, Iterator
+from collections.abc import Callable, Iterable, Iterator
 from dataclasses import dataclass, field
 
 from cophy_pg.pricing import Chosen, Pricing
@@ -17,14 +17,16 @@ MOST_CALLS, MOST_CLIMBED = 600, 6
 @dataclass
 class Exchange:
     """Candidates with the pages that PostgreSQL takes for them, the space for all together, those that stay what they are,
-    picked or not, the tables of those that are clustered, of which a table has one, and how often was asked for what comes of
-    another one in a pick's place."""
+    picked or not, the tables of those that are clustered, of which a table has one, whether there is time for more, whether
+    there wasn't for all, and how often was asked for what comes of another one in a pick's place."""
 
     pricing: Pricing
     sizes: dict[int, int]
     room: int
     fixed: Chosen = frozenset()
     clustered: dict[int, str] = field(default_factory=dict)
+    goes_on: Callable[[], bool] = lambda: True
+    is_cut: bool = False
     followed: int = 0
 
     def improved(self, chosen: Chosen, others: Iterable[int]) -> Chosen:
@@ -34,6 +36,8 @@ class Exchange:
         one in a pick's place. Of steps that save as much the one that leaves more space is taken."""
         free, some = (sorted(frozenset(it) - self.fixed) for it in (self.pricing.candidates, others))
         for _ in range(MOST_STEPS):
+            if not self._goes_on():
+                break
             less, new = self._less(chosen), [it for it in free if it not in chosen]
             exchanged = [self._with(base, it) for it in some if it not in chosen for base in less]
             step = self._best(chosen, [*less, *self._more(chosen, new, less), *exchanged])
@@ -53,7 +57,7 @@ class Exchange:
         """What comes of it where a pick, large ones first, makes way for what saves the most a page in its place, until so much
         was asked for."""
         for base in sorted(less, key=lambda it: (self.size(it), sorted(it))):
-            if self.followed >= MOST_CALLS:
+            if self.followed >= MOST_CALLS or not self._goes_on():
                 break
             asked = self.pricing.calls
             fitting = [it for it in free if it not in chosen and self.size(self._with(base, it)) <= self.room]
@@ -75,28 +79,33 @@ class Exchange:
     def _best(self, chosen: Chosen, steps: Iterable[Chosen]) -> Chosen | None:
         """Of some steps that fit the one that saves the most; nothing where none saves anything."""
         fitting = [it for it in steps if self._is_allowed(it, chosen)]
-        now, costs = (self.pricing.cost(chosen), self.size(chosen)), self.pricing.costs(chosen, fitting)
+        now, costs = (self.pricing.cost(chosen), self.size(chosen)), self._costs(chosen, fitting)
         best = min(((cost, self.size(it), sorted(it)) for cost, it in zip(costs, fitting)), default=None)
         return frozenset(best[2]) if best is not None and best[:2] < now else None
 
     def _saving(self, chosen: Chosen, new: list[int]) -> list[int]:
         """Some of those that would save the most a page beside all picks, whether or not there is room."""
-        now, costs = self.pricing.cost(chosen), self.pricing.costs(chosen, [self._with(chosen, it) for it in new])
+        now, costs = self.pricing.cost(chosen), self._costs(chosen, [self._with(chosen, it) for it in new])
         shares = {it: (now - cost) / max(1, self.sizes[it]) for it, cost in zip(new, costs) if cost < now}
         return sorted(shares, key=lambda it: (-shares[it], it))[:MOST_EXCHANGED]
 
     def best_of(self, starts: Iterable[Chosen], others: Iterable[int]) -> Chosen | None:
-        """What costs the least of what comes out from several sets of picks, some of which may be too large; nothing where
-        none can be made to fit."""
-        fitting = dict.fromkeys(it for it in map(self._fitted, starts) if self.size(it) <= self.room)
-        found = [self.improved(it, others) for it in fitting]
-        return min(found, key=lambda it: (self.pricing.cost(it), self.size(it))) if found else None
+        """What costs the least of what comes out from several sets of picks, the first of which is always tried and others may
+        be too large; nothing where none can be made to fit."""
+        found = dict[Chosen, Chosen]()
+        for start in starts:
+            if found and not self._goes_on():
+                break
+            fitting = self._fitted(start)
+            if fitting not in found and self.size(fitting) <= self.room:
+                found[fitting] = self.improved(fitting, others)
+        return min(found.values(), key=lambda it: (self.pricing.cost(it), self.size(it))) if found else None
 
     def _fitted(self, chosen: Chosen) -> Chosen:
         """A set without the picks that save the least a page, as many as make it too large."""
-        while self.size(chosen) > self.room and chosen - self.fixed:
+        while self.size(chosen) > self.room and chosen - self.fixed and self._goes_on():
             less = [chosen - {it} for it in sorted(chosen - self.fixed)]
-            costs, size = self.pricing.costs(chosen, less), self.size(chosen)
+            costs, size = self._costs(chosen, less), self.size(chosen)
             now = self.pricing.cost(chosen)
             shares = [(cost - now) / max(1, size - self.size(it)) for cost, it in zip(costs, less)]
             chosen = less[shares.index(min(shares))]
@@ -106,7 +115,7 @@ class Exchange:
         """A pick more, each without the others that save the least a page, as many as leave no room for it. So no candidate
         that fits alone is left out for the pages that the model counts."""
         now = self.pricing.cost(chosen)
-        saved = {it: cost - now for cost, base in zip(self.pricing.costs(chosen, less), less) for it in chosen - base}
+        saved = {it: cost - now for cost, base in zip(self._costs(chosen, less), less) for it in chosen - base}
         order = sorted(saved, key=lambda it: (saved[it] / max(1, self.sizes[it]), it))
         found = []
         for number in free:
@@ -115,6 +124,13 @@ class Exchange:
                 others.pop(0)
             found.append(self._with(chosen - {*order} | {*others}, number))
         return found
+
+    def _costs(self, base: Chosen, sets: list[Chosen]) -> list[int]:
+        return self.pricing.costs(base, sets, self._goes_on)
+
+    def _goes_on(self) -> bool:
+        self.is_cut = self.is_cut or not self.goes_on()
+        return not self.is_cut
 
     def _with(self, chosen: Chosen, number: int) -> Chosen:
         """A set with a candidate more; of a clustered one without the other that is clustered on its table."""

@@ -1,7 +1,8 @@
 """The cost of a workload under sets of its candidates, by `cophy whatif`; what is known of a statement isn't asked for again."""
 from __future__ import annotations
 
-from collections.abc import Iterable, Sequence
+import sys
+from collections.abc import Callable, Iterable, Sequence
 from dataclasses import dataclass, field
 from pathlib import Path
 
@@ -11,6 +12,8 @@ from cophy_pg.program import Program
 
 Chosen = frozenset[int]
 """Candidates by their numbers."""
+UNPRICED = sys.maxsize
+"""Stands for a cost that there wasn't time to ask for: it is more than any."""
 
 
 @dataclass
@@ -48,11 +51,12 @@ class Pricing:
             self._ask(chosen)
         return self._sum(chosen)
 
-    def costs(self, base: Chosen, sets: Sequence[Chosen]) -> list[int]:
-        """The costs under sets that differ little from a base. Differences that no statement sees together share a call."""
+    def costs(self, base: Chosen, sets: Sequence[Chosen], goes_on: Callable[[], bool] = lambda: True) -> list[int]:
+        """The costs under sets that differ little from a base, as long as it goes on. Differences that no statement sees
+        together share a call."""
         self.cost(base)
         waiting = list(sets)
-        while waiting := [it for it in waiting if not self._is_known(it)]:
+        while (waiting := [it for it in waiting if not self._is_known(it)]) and goes_on():
             seen, together = set[frozenset[str]](), base
             for it in waiting:
                 changed = self._over(base ^ it)
@@ -61,7 +65,7 @@ class Pricing:
                     seen |= sees
                     together = self._without(together, changed) | (it - self._without(it, changed))
             self._ask(together)
-        return [self._sum(it) for it in sets]
+        return [self._sum(it) if self._is_known(it) else UNPRICED for it in sets]
 
     def statement_costs(self, chosen: Chosen) -> list[int]:
         """The weighted cost of each statement."""

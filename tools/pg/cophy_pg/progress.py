@@ -20,6 +20,10 @@ class Progress:
             self.told = now
             say(f"{text}, {now - self.begun:.0f} s so far")
 
+    def still(self, text: str) -> None:
+        """Tells how far that has come which was told last."""
+        self(text)
+
 
 def say(text: str) -> None:
     """Writes a line to the standard error, where somebody reads it."""

@@ -1,7 +1,10 @@
 """The searches of `advise`: for what fills the budget as PostgreSQL stores it, under rules or without any."""
 from __future__ import annotations
 
+import math
 import os
+import time
+from collections.abc import Callable
 from dataclasses import dataclass, field, replace
 
 from cophy_text import files
@@ -28,7 +31,9 @@ MOST_STARTS = 4
 """Of so many sets of picks is it tried what exchanges make of them."""
 MOST_SEARCHES = MOST_TRIES + len(FURTHER) + 1
 """So often is searched in a round: for what fills the budget, and for what exchanges made of that."""
-EXCHANGING = "exchanging picks for others"
+EXCHANGING, LEAST_SECONDS = "exchanging picks for others", 30.0
+"""Picks are exchanged for so long, or for as long as was searched before."""
+CUT = "picks were exchanged for others for a limited time only, so others may cost less in the same space"
 POINTS, FIRST = 3, 3
 """How many points a curve has where it bends, and where its first picks come in, beside those that were searched for anyhow."""
 
@@ -100,13 +105,17 @@ class Searches:
     texts: dict[int, str] = field(default_factory=dict)
     ruled: dict[tuple[int, str], str] = field(default_factory=dict)
     pricing: Pricing | None = None
+    trials: set[str] = field(default_factory=set)
     count: int = 0
     most: int = 0
+    clock: Callable[[], float] = time.monotonic
+    is_cut: bool = False
+    """Whether there wasn't time for all exchanges."""
 
     def filling(self, schema: Schema, rules: Rules) -> tuple[Advice, str]:
         """The advice that fills the budget as PostgreSQL stores it, and the rules that it is found under: where other picks cost
         less in the same space, these have to be."""
-        lines, tried = rules.text(), list[Advice]()
+        lines, tried, begun = rules.text(), list[Advice](), self.clock()
         self.begin(MOST_SEARCHES)
         if lines:
             self.kept.write({folder.RULES: lines})
@@ -120,7 +129,9 @@ class Searches:
         text = self.ruled[found.budget, lines] if lines else self.texts[found.budget]
         self.kept.write({folder.UNFINISHED: text})
         self.progress(EXCHANGING)
-        better = self._exchanged(schema, rules, found, tried)
+        exchange = self.exchange(schema, rules, max(LEAST_SECONDS, self.clock() - begun))
+        better = self._exchanged(exchange, found, tried)
+        self.is_cut |= exchange.is_cut
         if better is None or self._prices().cost(better) >= found.cost:
             return found, lines
         try:
@@ -135,19 +146,20 @@ class Searches:
         self.kept.write({folder.RULES: ruled})
         return self._at(sum(it.pages for it in picks), ruled), ruled
 
-    def _exchanged(self, schema: Schema, rules: Rules, found: Advice, tried: list[Advice]) -> Chosen | None:
+    def _exchanged(self, exchange: Exchange, found: Advice, tried: list[Advice]) -> Chosen | None:
         """What costs the least in the same space, from the picks that were found and those that cost less and are too large."""
         larger = sorted((it for it in tried if it.cost < found.cost), key=lambda it: -it.cost)
         starts = dict.fromkeys(frozenset(it.number for it in one.picks) for one in (found, *larger))
         others = {it.number for one in tried for it in one.picks}
-        return self.exchange(schema, rules).best_of([*starts][:MOST_STARTS], others)
+        return exchange.best_of([*starts][:MOST_STARTS], others)
 
     def unused(self, schema: Schema, rules: Rules, picks: list[Candidate], left_out: list[Candidate]) -> str | None:
-        """What is said of space that is left, where it is much and nothing that fits and wasn't left out saves anything."""
-        exchange, chosen = self.exchange(schema, rules), frozenset(it.number for it in picks)
+        """What is said of space that is left, where it is much and nothing that fits and wasn't left out saves anything; nothing
+        where there wasn't time to tell."""
+        exchange, chosen = self.exchange(schema, rules, LEAST_SECONDS), frozenset(it.number for it in picks)
         exchange.fixed |= chosen | {it.number for it in left_out}
         left = self.asked - exchange.size(chosen)
-        if left <= self.asked * (1 - WELL_FILLED) or not exchange.improved(chosen, ()) <= chosen:
+        if left <= self.asked * (1 - WELL_FILLED) or not exchange.improved(chosen, ()) <= chosen or exchange.is_cut:
             return None
         but = ["what was left out"] * bool(left_out) + ["what rules speak of"] * bool(rules.given)
         told = "by our model no other index that fits saves anything" + (f", but for {' or '.join(but)}" if but else "")
@@ -161,13 +173,20 @@ class Searches:
         self.pricing = self.pricing or Pricing(self.program)
         return self.pricing
 
-    def exchange(self, schema: Schema, rules: Rules) -> Exchange:
-        """Exchanges candidates, clustered ones too, that rules don't speak of: what these ask for or forbid stays so."""
-        prices = self._prices()
+    def exchange(self, schema: Schema, rules: Rules, seconds: float = math.inf) -> Exchange:
+        """Exchanges candidates, clustered ones too, that rules don't speak of: what these ask for or forbid stays so. It tells
+        how many sets were priced, and stops after some seconds."""
+        end, prices = self.clock() + seconds, self._prices()
+        before = prices.calls
+
+        def goes_on() -> bool:
+            self.progress.still(f"{EXCHANGING}, {counted(prices.calls - before, 'set')} priced")
+            return self.clock() < end
+
         sizes = {number: stored_size(schema, [it]) for number, it in prices.candidates.items()}
         fixed = (number for number, it in prices.candidates.items() if rules.speak_of(it))
         clustered = {number: it.table.lower() for number, it in prices.candidates.items() if it.is_clustered}
-        return Exchange(prices, sizes, room_in(self.asked), frozenset(fixed), clustered)
+        return Exchange(prices, sizes, room_in(self.asked), frozenset(fixed), clustered, goes_on)
 
     def begin(self, most: int) -> None:
         """Begins a part of at most so many searches, which are counted."""
@@ -183,6 +202,7 @@ class Searches:
             text = self.texts[budget]
         else:
             trial = self.kept.path(f"{folder.CERTIFICATE}-{budget}")
+            self.trials.add(f"{folder.CERTIFICATE}-{budget}")
             text = self.program.text("advise", str(budget), *self.nodes, "--cert", trial)
             self.texts[budget] = text
             os.chmod(trial, files.PRIVATE)
@@ -233,8 +253,8 @@ class Searches:
             self.kept.clear(folder.RULES)
 
     def clear(self) -> None:
-        """Takes away what is left of certificates, and the advice of the last round."""
-        self.kept.clear(folder.UNFINISHED, *(f"{folder.CERTIFICATE}-{it}" for it in self.texts))
+        """Takes away what is left of certificates."""
+        self.kept.clear(*self.trials)
 
 
 def listed_in(rules: str) -> list[str]:

@@ -33,6 +33,12 @@ class Steps(Progress):
         elif not self.is_quiet:
             super().__call__(self._within(f"question {self.question}, {text}" if self.question else text))
 
+    def still(self, text: str) -> None:
+        if self.shown is not None:
+            self.shown.update(self.task, description=self._within(text))
+        else:
+            self(text)
+
     def begin(self, part: str) -> None:
         """Begins a part, whose name stands before all that is told until the next one begins."""
         self.part, self.question = part, 0
@@ -72,5 +78,6 @@ class Steps(Progress):
             self(text)
         yield
         if self.shown is not None:
-            self.shown.update(self.task, total=count or 1, completed=count or 1)
+            done = {"total": count or 1, "completed": count or 1, "description": self._within(text)}
+            self.shown.update(self.task, **done)
         self.seconds[name] = self.seconds.get(name, 0.0) + time.monotonic() - begun
