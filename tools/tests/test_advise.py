@@ -8,17 +8,17 @@ import pty
 import re
 import shlex
 import shutil
-import signal
 import stat
 import subprocess
 import tempfile
+import tomllib
 import unittest
 from contextlib import suppress
 from pathlib import Path
 from typing import Any
 
 from fixtures import ADVISOR, COPHY, NO_HYPOPG, ROOT, STAND_IN, TOOL, OverShop, called
-from patience import LONG, until
+from patience import LONG
 from schema_check import faults
 
 SCHEMA = json.loads((ROOT / "tools" / "pg" / "cophy_pg" / "advice.schema.json").read_text())
@@ -30,29 +30,9 @@ UPDATE customer SET city = 'City 9' WHERE id = 12;
 SELECT name FROM customer WHERE no_function(city) = 1;
 """
 FILES = (
-    "advice.json advice.txt catalogue.toml certificate check.txt commands.txt curve.json details.txt export.txt indexes.sql kept.txt lint.txt "
+    "advice.json advice.txt catalogue.toml certificate check.txt commands.txt curve.json database.toml details.txt export.txt indexes.sql kept.txt lint.txt "
     "plans.json ruled.txt rules.txt summary.txt verify.json workload.sql"
 ).split()
-HELD = f"""#!/usr/bin/python3 -IB
-import os, signal, sys, time
-from pathlib import Path
-signal.signal(signal.SIGINT, signal.SIG_DFL)
-if sys.argv[1:2] == ["whatif"] and Path(sys.argv[2]).with_name("unfinished.txt").exists():
-    if "FAULT" in os.environ:
-        print("refused")
-        sys.exit(2)
-    Path(__file__).with_name("held").touch()
-    time.sleep({LONG})
-os.execv({str(STAND_IN)!r}, [{str(STAND_IN)!r}, *sys.argv[1:]])
-"""
-"""A program that sleeps while picks are exchanged, or refuses to price them."""
-LATE = f"""import functools, itertools, sys
-sys.path[:0] = {[str(ROOT / "tools" / it) for it in ("pg", "lint", "common")]!r}
-from cophy_pg import advise, main
-advise.Searches = functools.partial(advise.Searches, clock=itertools.count(0, 31).__next__)
-sys.exit(main.main())
-"""
-"""The tool with a clock by which half a minute is over whenever it is looked at."""
 HAS_JINJA = importlib.util.find_spec("jinja2") is not None
 HAS_RICH = importlib.util.find_spec("rich") is not None
 
@@ -157,6 +137,21 @@ class Advise(OverShop):
                 self.assertEqual(ran.stdout, without_gains((self.kept / "indexes.sql").read_text()))
         self.assertEqual((self.kept / "kept.txt").read_text(), kept)
 
+    def test_the_catalogue_has_the_tables_that_statements_name(self) -> None:
+        both = [tomllib.loads((self.kept / it).read_text()) for it in ("catalogue.toml", "database.toml")]
+        few, every = ({it["name"]: it for it in one["table"]} for one in both)
+        # So has the table that is called as the word ORDER.
+        self.assertEqual({*few}, {"customer", "line", "order", "product", "sales_orders"})
+        self.assertEqual(few, {it: every[it] for it in few})
+        self.assertIn("pgbench_accounts", every)
+        # No index gets the name of what isn't in it.
+        self.assertLessEqual({"pgbench_accounts", "pgbench_accounts_pkey"}, {*both[0]["postgres_taken"]})
+        ran = [
+            self.call("ddl", str(self.kept / it), str(self.kept / "kept.txt"))
+            for it in ("catalogue.toml", "database.toml")
+        ]
+        self.assertEqual(ran[0].stdout, ran[1].stdout)
+
     def test_text_for_people(self) -> None:
         words = ("advise", "--sql", str(self.sql), "--budget", "2560", "--folder", str(self.found))
         short = self.call(*words).stdout
@@ -222,7 +217,7 @@ class Advise(OverShop):
 
     def test_rules_say_what_has_to_be_and_what_never_may(self) -> None:
         rules = self.folder / "rules"
-        rules.write_text("# ours\nnever sales.orders(total)\nmust product(stock)\nnever nowhere\n")
+        rules.write_text("# ours\nnever sales.orders(total)\nmust product(stock)\nnever nowhere\nmust event(kind)\n")
         self.sql.write_text(QUERIES + "SELECT id FROM product WHERE stock > 0;\n")
         found = self.advise("--rules", str(rules))
         self.assertEqual(found["rules"][:2], ["never sales_orders(total)", "must product(stock)"])
@@ -233,7 +228,9 @@ class Advise(OverShop):
         self.assertIn("a rule asks for it, no plan takes it", summary)
         if HAS_JINJA:
             self.assertIn("A rule asks for it", (self.found / "report.html").read_text())
-        self.assertIn("rules, line 4: the catalogue has no table 'nowhere'", found["warnings"])
+        # No statement names the table event.
+        for number, name in ((4, "nowhere"), (5, "event")):
+            self.assertIn(f"rules, line {number}: the catalogue has no table {name!r}", found["warnings"])
         rules.write_text("must product\n")
         words = (
             "advise",
@@ -305,49 +302,6 @@ class Advise(OverShop):
         self.call(*words, "1MB", status=1, COPHY_PROGRAM="/bin/false")
         self.assertFalse((self.found / "advice.json").exists())
         self.call(*words, "1MB", "--since", str(self.sql), status=1)
-
-    def test_what_is_broken_off_leaves_what_the_last_round_advised(self) -> None:
-        program, held = self.lay_program(HELD), self.folder / "held"
-        words = [str(TOOL), "advise", "--sql", str(self.sql), "--budget", "20MB", "--folder", str(self.found)]
-        ends: list[tuple[int, list[str]]] = [(signal.SIGINT, ["--include"]), (signal.SIGTERM, []), (0, [])]
-        for number, more in ends:
-            given = {"PGUSER": "cophy_advisor", "COPHY_PROGRAM": program} | ({} if number else {"FAULT": "1"})
-            with subprocess.Popen(
-                [*words, *more],
-                stdout=subprocess.DEVNULL,
-                stderr=subprocess.PIPE,
-                text=True,
-                env=self.server.environment("shop", **given),
-                start_new_session=True,
-            ) as ran:
-                if number:
-                    until(held.exists, "picks are exchanged")
-                    os.killpg(ran.pid, number)
-                said = ran.communicate(timeout=LONG)[1]
-            with self.subTest(number=number):
-                self.assertEqual(ran.returncode, 128 + number if number else 1)
-                left = ["catalogue.toml", "export.txt", "lint.txt", "unfinished.txt", "workload.sql"]
-                self.assertEqual(sorted(it.name for it in self.found.iterdir()), left)
-                told = f"what the last round advised is in {self.found}/unfinished.txt; a script that makes it: "
-                self.assertIn(told, said)
-                command = shlex.split(said.partition(told)[2].splitlines()[0])
-                self.assertEqual((command[:2], "--include" in command), (["cophy-pg", "ddl"], bool(more)))
-                self.assertIn('ON "sales"."orders" ("total")', self.call(*command[1:]).stdout)
-            held.unlink(missing_ok=True)
-        self.advise()
-        self.assertFalse((self.found / "unfinished.txt").exists())
-
-    def test_it_is_told_once_where_there_was_no_time_for_all_exchanges(self) -> None:
-        words = ["advise", "--sql", str(self.sql), "--budget", "20MB", "--folder", str(self.found), "--json"]
-        given = self.server.environment("shop", PGUSER="cophy_advisor", **self.given)
-        ran = subprocess.run(
-            ["/usr/bin/python3", "-IB", "-c", LATE, *words], capture_output=True, text=True, env=given, timeout=LONG
-        )
-        self.assertEqual(ran.returncode, 0, ran.stderr)
-        cut = "picks were exchanged for others for a limited time only, so others may cost less in the same space"
-        self.assertEqual(json.loads(ran.stdout)["warnings"].count(cut), 1)
-        self.assertEqual((self.found / "details.txt").read_text().count(f"warning: {cut}\n"), 1)
-        self.assertNotIn(cut, self.first["warnings"])
 
     def test_a_role_with_powers_is_refused_before_anything_is_made(self) -> None:
         words = ("advise", "--sql", str(self.sql), "--budget", "1MB", "--folder", str(self.found))
@@ -463,6 +417,13 @@ class Advise(OverShop):
         )
         self.assertLessEqual(found["stored_pages"], found["asked_pages"])
         self.assertIn("customer", {it["table"] for it in found["picks"]})
+        load, said = str(self.found / "workload.sql"), dict[str, list[bytes]]()
+        for it in ("catalogue.toml", "database.toml"):
+            for more in (("cost",), ("candidates",), ("advise", "900")):
+                words = [str(COPHY), more[0], str(self.found / it), load, *more[1:]]
+                said.setdefault(more[0], []).append(subprocess.run(words, capture_output=True, check=True).stdout)
+        for name, (few, every) in said.items():
+            self.assertEqual(few, every, name)
         step = (self.found / "commands.txt").read_text().splitlines()[5]
         self.assertEqual(
             subprocess.run(shlex.split(step), capture_output=True, check=True).stdout,

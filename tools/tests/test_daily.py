@@ -4,6 +4,7 @@ from __future__ import annotations
 import configparser
 import json
 import shlex
+import tomllib
 from pathlib import Path
 from typing import Any
 from unittest import skipIf
@@ -80,6 +81,22 @@ class Daily(InFolder):
         words = ("changes", str(self.folders()[0]), str(self.folders()[1]))
         self.assertEqual(self.call(*words), (self.folders()[1] / "changes.txt").read_text().rsplit("all files", 1)[0])
         self.assertEqual(json.loads(self.call(*words, "--json")), found)
+
+    def test_a_day_whose_statements_name_another_table(self) -> None:
+        self.server.psql(
+            "INSERT INTO u SELECT generate_series(1, 90000); ANALYZE u; SELECT pg_stat_statements_reset()", "days"
+        )
+        self.server.psql("SELECT a FROM t WHERE b = 5;" * 9, "days")
+        words = ("--budget", "20MB", "--table", "t", "--table", "u")
+        self.call("daily", str(self.home), *words, status=3)
+        self.server.psql("CREATE INDEX ON t (b);" + "SELECT a FROM u WHERE a = 5;" * 9, "days")
+        found = self.daily(*words[2:], status=3)
+        named = [tomllib.loads((it / "catalogue.toml").read_text())["table"] for it in self.folders()]
+        self.assertEqual([[it["name"] for it in tables] for tables in named], [["t"], ["u"]])
+        kinds = {kind: [it["index"] for it in picks] for kind, picks in found["indexes"].items()}
+        self.assertEqual(kinds, {"new": ["u(a)"], "made": ["t(b)"], "gone": [], "kept": []})
+        # Both tables have the rows that they had on the day whose statements didn't name them.
+        self.assertEqual(found["tables"], [])
 
     def test_a_day_without_statements(self) -> None:
         self.server.psql("SELECT a FROM t WHERE b = 5;" * 9, "days")

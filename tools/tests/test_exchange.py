@@ -16,7 +16,7 @@ if not NO_PARSER:
     from cophy_pg.catalogue import read_schema
     from cophy_pg.exchange import Exchange
     from cophy_pg.folder import Folder
-    from cophy_pg.pricing import Chosen, Pricing
+    from cophy_pg.pricing import UNPRICED, Chosen, Pricing
     from cophy_pg.program import Program
     from cophy_pg.progress import Progress
     from cophy_pg.searches import EXCHANGING, LEAST_SECONDS, MOST_SEARCHES, Rules, Searches
@@ -47,7 +47,7 @@ if not NO_PARSER:
             return 100 * len(self.saved) - sum(gains) + sum(self.upkeep[it] for it in chosen)
 
         def costs(self, base: Chosen, sets: Sequence[Chosen], goes_on: Callable[[], bool] = lambda: True) -> list[int]:
-            return [self.cost(it) for it in sets]
+            return [self.cost(it) if goes_on() else UNPRICED for it in sets]
 
 
 def clash(chosen: frozenset[int], clustered: dict[int, str]) -> bool:
@@ -73,6 +73,21 @@ class Steps(unittest.TestCase):
         ):
             with self.subTest(room=room, start=start):
                 self.assertEqual(Exchange(prices, sizes, room).improved(frozenset(start), others), found)
+
+    def test_where_time_is_over_it_is_the_best_that_was_found(self) -> None:
+        prices = Made([{1: 90, 2: 60}, {3: 50}, {4: 5}], dict.fromkeys(range(1, 6), 1))
+        sizes, start = {1: 9, 2: 4, 3: 5, 4: 3, 5: 1}, frozenset((2, 4))
+        costs = list[int]()
+        for count in range(99):
+            exchange = Exchange(prices, sizes, 9, goes_on=iter([True] * count + [False] * 999).__next__)
+            found = exchange.improved(start, (3,))
+            costs.append(prices.cost(found))
+            self.assertLessEqual(exchange.size(found), 9)
+            if not exchange.is_cut:
+                break
+        # 2 and 4 save 65 of 300, 2 and 3 save 110, and each costs 1.
+        self.assertEqual((found, costs[0], costs[-1], max(costs)), ({2, 3}, 237, 192, 237))
+        self.assertIn(192, costs[:-1])
 
     def test_what_is_too_large_is_tried_too(self) -> None:
         # The pick that saves the most needs two others out of the way, which no single step takes.

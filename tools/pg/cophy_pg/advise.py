@@ -71,7 +71,7 @@ def advise(words: argparse.Namespace) -> int:
     for name in (it for it in given if it):
         files.read(name)
     kept = Folder.made(words.folder)
-    files.check([kept.path(it) for it in (folder.CATALOGUE, folder.WORKLOAD, folder.RESULT)], given)
+    files.check([kept.path(it) for it in (folder.CATALOGUE, folder.DATABASE, folder.WORKLOAD, folder.RESULT)], given)
     with kept.unless_empty(), unless_broken_off(words, kept):
         with Steps(words.json).all() as steps:
             document = Run(words, kept, steps).document()
@@ -228,9 +228,10 @@ class Run:
         if words.include:
             found.schema.searched = searched_columns(workload.text().encode(errors="replace"))
         self.head = self._head_of(name, version) | {"doubts": doubts, "host": place[0], "port": place[1]}
-        catalogue = export.catalogue_of(found, name)
+        # The program reads a catalogue at each call, so it has only what statements name.
+        catalogue = export.catalogue_of(found, name, export.named_in(workload, found.schema))
         rank(workload, catalogue, words.program, is_ordered=not (words.sql or words.log))
-        contents[folder.CATALOGUE] = catalogue
+        contents[folder.CATALOGUE], contents[folder.DATABASE] = catalogue, export.catalogue_of(found, name)
         contents[folder.WORKLOAD] = workload.text()
         contents[folder.EXPORT] = export.report_of(workload, [*doubts, *self.warnings])
         self.folder.write(contents)

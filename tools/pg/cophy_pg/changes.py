@@ -26,7 +26,7 @@ MOST_TOLD = 10
 
 @dataclass
 class Found:
-    """A folder of `advise`: its document, and the catalogue."""
+    """A folder of `advise`: its document, and the catalogue with all tables."""
 
     document: dict[str, Any]
     schema: Schema
@@ -41,7 +41,7 @@ class Found:
                 raise ValueError
         except (ValueError, TypeError, KeyError, RecursionError):
             raise NoInput(f"{shown(kept.path(folder.RESULT))} is no result of cophy-pg advise") from None
-        return Found(document, read_schema(kept.read(folder.CATALOGUE)))
+        return Found(document, read_schema(kept.read(kept.whole())))
 
     def has(self, pick: dict[str, Any]) -> bool:
         """Whether an index of the catalogue is over just these columns."""

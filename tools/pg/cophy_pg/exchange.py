@@ -90,7 +90,7 @@ class Exchange:
         return sorted(shares, key=lambda it: (-shares[it], it))[:MOST_EXCHANGED]
 
     def best_of(self, starts: Iterable[Chosen], others: Iterable[int]) -> Chosen | None:
-        """What costs the least of what comes out from several sets of picks, the first of which is always tried and others may
+        """What costs the least of what comes out from several sets of picks, of which the first is always tried and some may
         be too large; nothing where none can be made to fit."""
         found = dict[Chosen, Chosen]()
         for start in starts:

@@ -5,15 +5,18 @@ import argparse
 
 from cophy_text import files
 from cophy_text.answers import counted
+from cophy_text.tokens import names_in
 from cophy_pg import inputs
 from cophy_pg.catalogue import catalogue_text, read_schema
 from cophy_pg.clustering import add_clustering, permit
+from cophy_pg.ddl import taken_names
 from cophy_pg.folding import Folding
 from cophy_pg.program import add_program
 from cophy_pg.progress import Progress, say
 from cophy_pg.ranking import rank, ready
 from cophy_pg.report import each, summary
 from cophy_pg.rewrite import Rewriter, options
+from cophy_pg.schema import Schema
 from cophy_pg.selection import Selection, add_selection, selection_of
 from cophy_pg.server import Server, add_connection, connected, reading
 from cophy_pg.statistics import Found, read_database
@@ -118,10 +121,21 @@ def read(
     return listed, found, [*warnings, *found.warnings], name
 
 
-def catalogue_of(found: Found, name: str) -> bytes:
-    """The catalogue of what was found in a database of this name."""
+def catalogue_of(found: Found, name: str, schema: Schema | None = None) -> bytes:
+    """The catalogue of what was found in a database of this name, or of a part of that."""
     head = [f"The database {name!a}, exported by cophy-pg.", "A cost divided by 1000 is in the unit of EXPLAIN."]
-    return catalogue_text(found.schema, found.rates, head).encode("ascii")
+    return catalogue_text(schema or found.schema, found.rates, head).encode("ascii")
+
+
+def named_in(workload: Workload, schema: Schema) -> Schema:
+    """The tables that statements name, with those that inherit from them; all where they name none. The names that no new
+    index may have stay known."""
+    names = names_in(workload.text().encode(errors="replace"))
+    named = [it for it in schema.tables.values() if it.shown.lower() in names]
+    kept = {key for it in named for key in ((it.schema, it.name), *it.children)} or {*schema.tables}
+    found = Schema((it for key, it in schema.tables.items() if key in kept), schema.path)
+    found.taken = sorted(taken_names(schema) - taken_names(found))
+    return found
 
 
 def rewrite(words: argparse.Namespace) -> int:

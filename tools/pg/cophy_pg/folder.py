@@ -18,6 +18,8 @@ VERIFY, KEPT, DDL, PLANS = "verify.json", "kept.txt", "indexes.sql", "plans.json
 SUMMARY, RESULT, REPORT, COMMANDS = "summary.txt", "advice.json", "report.html", "commands.txt"
 CURVE, DETAILS = "curve.json", "details.txt"
 UNFINISHED = "unfinished.txt"
+DATABASE = "database.toml"
+"""The catalogue with all tables, also those that no statement names."""
 CHANGES, CHANGES_JSON = "changes.txt", "changes.json"
 
 
@@ -66,6 +68,10 @@ class Folder:
     def has(self, name: str) -> bool:
         """Whether it has such a file."""
         return os.path.isfile(self.path(name))
+
+    def whole(self) -> str:
+        """The name of the catalogue with all tables, which an older folder has alone."""
+        return DATABASE if self.has(DATABASE) else CATALOGUE
 
     def clear(self, *names: str) -> None:
         """Takes files of an earlier run away."""

@@ -76,7 +76,7 @@ def _prices(words: argparse.Namespace, found: list[Finding]) -> dict[int, tuple[
     kept, progress = Folder(words.folder), Progress()
     prices: dict[int, tuple[int, int]] = {}
     try:
-        without = Without(words.program, kept.path(folder.CATALOGUE), kept.path(folder.WORKLOAD))
+        without = Without(words.program, kept.path(kept.whole()), kept.path(folder.WORKLOAD))
         for it in found:
             progress(f"pricing without {it.index.name!a}")
             cost = without.cost(it.index) if it.may_go() else None

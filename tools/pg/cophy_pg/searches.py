@@ -154,8 +154,8 @@ class Searches:
         return exchange.best_of([*starts][:MOST_STARTS], others)
 
     def unused(self, schema: Schema, rules: Rules, picks: list[Candidate], left_out: list[Candidate]) -> str | None:
-        """What is said of space that is left, where it is much and nothing that fits and wasn't left out saves anything; nothing
-        where there wasn't time to tell."""
+        """What is said of space that is left, where it is much and nothing that fits and wasn't left out saves anything, as
+        far as there was time to tell."""
         exchange, chosen = self.exchange(schema, rules, LEAST_SECONDS), frozenset(it.number for it in picks)
         exchange.fixed |= chosen | {it.number for it in left_out}
         left = self.asked - exchange.size(chosen)
@@ -174,8 +174,8 @@ class Searches:
         return self.pricing
 
     def exchange(self, schema: Schema, rules: Rules, seconds: float = math.inf) -> Exchange:
-        """Exchanges candidates, clustered ones too, that rules don't speak of: what these ask for or forbid stays so. It tells
-        how many sets were priced, and stops after some seconds."""
+        """Exchanges candidates, clustered ones too, that rules don't speak of: what these ask for or forbid stays so. It
+        tells how many sets were priced, and stops after some seconds."""
         end, prices = self.clock() + seconds, self._prices()
         before = prices.calls
 
