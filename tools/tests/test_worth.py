@@ -36,12 +36,16 @@ class Worths(unittest.TestCase):
         )
         reason = Reason(PICKS[0], 910, {1: 10})
         worth = worth_of(reason, (none, kept), found, {1: 85.0}, [8.0, 2.0, 10.0])
-        self.assertEqual((worth.ours, worth.server, worth.measured), (1.0, 12.5, 10.0))
+        self.assertEqual((worth.ours, worth.server, worth.measured, worth.planned), (1.0, 12.5, 10.0, 10.0))
         self.assertEqual(worth.most(), 12.5)
         text = "1.0 % by our model, 12.5 % by the server's planner, 10.0 % of the measured time"
         self.assertEqual(worth.shown(), text)
         unknown = worth_of(reason, (none, kept), found, {}, [8.0, None])
-        self.assertEqual((unknown.server, unknown.measured), (0.0, None))
+        self.assertEqual((unknown.server, unknown.measured, unknown.planned), (0.0, None, None))
+        # By our model a ninetieth of the first one's cost, which has 8 of 10 seconds; the server's planner sees nothing.
+        ours = worth_of(reason, (none, kept), found, {}, [8.0, 2.0])
+        self.assertEqual(ours.planned, 0.0)
+        self.assertAlmostEqual(ours.measured or 0.0, 100 * 8 / 10 * 10 / 900)
         self.assertNotIn("measured", unknown.shown())
 
     def test_a_pick_stays_where_one_of_the_three_reaches_the_limit(self) -> None:
@@ -77,6 +81,16 @@ class Worths(unittest.TestCase):
         self.assertEqual(places, [1, 2, 3, 0])
         doubts = [doubt_of(it) for it in listed]
         self.assertEqual(doubts, ["the server saves 3.3 %: probably not worth 33.0 MB", "", "", ""])
+        for ours, server, planned, why in (
+            (4.4, 0.9, 7.7, ""),
+            (27.0, 3.3, 5.0, ""),
+            (14.0, 2.9, 4.2, ""),
+            (27.0, 3.3, 4.2, "it saves 4.2 % of the measured time: probably not worth 33.0 MB"),
+            (27.0, 3.3, 1.0, "the server saves 3.3 %: probably not worth 33.0 MB"),
+        ):
+            it = pick(ours, server)
+            it["saves"]["planned"] = planned
+            self.assertEqual(doubt_of(it), why)
 
 
 if __name__ == "__main__":

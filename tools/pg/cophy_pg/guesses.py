@@ -50,8 +50,10 @@ def is_judged(pick: dict[str, Any]) -> bool:
 
 
 def doubt_of(pick: dict[str, Any]) -> str:
-    """What there is to say of a pick that by the server saves far less than by our model."""
-    ours, server = pick["saves"]["ours"], pick["saves"]["server"]
-    if not is_judged(pick) or server >= FEW or ours < max(LITTLE, FAR * server):
+    """What there is to say of a pick that by the server, of the cost and of the measured time, saves far less than by our model."""
+    ours, server, time = (pick["saves"].get(it) or 0.0 for it in ("ours", "server", "planned"))
+    saved = max(server, time)
+    if not is_judged(pick) or saved >= FEW or ours < max(LITTLE, FAR * saved):
         return ""
-    return f"the server saves {percent(server)}: probably not worth {space(pick['stored_pages'])}"
+    what = f"it saves {percent(time)} of the measured time" if time > server else f"the server saves {percent(server)}"
+    return f"{what}: probably not worth {space(pick['stored_pages'])}"

@@ -154,6 +154,7 @@ class Result:
             "ours": round(found.ours, 4),
             "server": round(found.server, 4),
             "measured": round(found.measured, 4) if found.measured is not None else None,
+            "planned": round(found.planned, 4) if found.planned is not None else None,
             "cost_without": reason.total_without,
         }
 

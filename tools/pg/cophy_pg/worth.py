@@ -12,11 +12,13 @@ from cophy_pg.why import Reason
 
 @dataclass(frozen=True)
 class Worth:
-    """Percents of the workload's cost without any pick, and of all measured time where that is known."""
+    """Percents of the workload's cost without any pick, and of all measured time where that is known; of the latter `planned` is
+    saved by the server's planner alone."""
 
     ours: float
     server: float
     measured: float | None
+    planned: float | None = None
 
     def most(self) -> float:
         """The largest of them."""
@@ -41,7 +43,7 @@ def worth_of(
     none, kept = prices
     ours = 100 * (reason.total_without - kept.total) / none.total if none.total else 0.0
     before = sum(it.calls * it.before for it in found if it.before is not None and it.after is not None)
-    server, seconds = 0.0, 0.0
+    server, seconds, planned = 0.0, 0.0, 0.0
     for it in found:
         saved = without[it.number] - (it.after or 0.0) if it.number in without else 0.0
         server += it.calls * saved
@@ -49,5 +51,7 @@ def worth_of(
         parts = [saved / it.before if it.before else 0.0]
         parts += [sum(reason.changes.get(at, 0) for at in it.written) / cost if cost else 0.0]
         seconds += (it.input.seconds or 0.0) * min(1.0, max(0.0, *parts))
+        planned += (it.input.seconds or 0.0) * parts[0]
     whole = whole_of(every)
-    return Worth(ours, 100 * server / before if before else 0.0, 100 * seconds / whole if whole else None)
+    of_time = [100 * part / whole if whole else None for part in (seconds, planned)]
+    return Worth(ours, 100 * server / before if before else 0.0, *of_time)
