@@ -167,7 +167,7 @@ class Advise(OverShop):
         self.assertEqual(re.sub("advised in .*", "", text), re.sub("advised in .*", "", before))
         self.assertRegex(
             text,
-            r"\A\d+ indexes to make, [0-9.]+ MB of 20\.0 MB, of which \d+ recommended, [0-9.]+ MB: database 'shop', 5 of 5 statements; ",
+            r"\A\d+ indexes to make, [0-9.]+ MB of 20\.0 MB, and \d+ not recommended, [0-9.]+ MB: database 'shop', 5 of 5 statements; ",
         )
         ddl = r'CREATE INDEX CONCURRENTLY "sales_orders_total_idx" ON "sales"\."orders" \("total"\);'
         sql = r"SELECT id FROM sales\.orders WHERE total =\.\.\."

@@ -136,10 +136,13 @@ class Summary(unittest.TestCase):
         lines = self.verdict()
         text = " ".join(lines)
         self.assertIn("Make these 3 indexes", text)
-        self.assertIn("70.0 % less by our model (proved: at most 80.0 % within this budget); judged by", text)
+        self.assertIn("70.0 % less by our model (at most 80.0 % within this budget, proved); judged by", text)
         self.document["gap"] = {"index": "t(c)", "why": "no plan of the server takes it"}
-        missing = "within this budget; the rest is mostly t(c): no plan of the server takes it); judged by"
+        missing = "within this budget, proved; the rest is mostly t(c): no plan of the server takes it)"
+        self.assertNotIn("the rest is mostly", " ".join(self.verdict()))
+        self.document["picks"] = [it for it in picks if not it["caveat"]]
         self.assertIn(missing, " ".join(self.verdict()))
+        self.document["picks"] = picks
         at = lines.index("not recommended, so left out (psql -v all=1 makes them too):")
         self.assertEqual(
             lines[at + 1 : at + 3],
@@ -158,12 +161,33 @@ class Summary(unittest.TestCase):
         self.assertIn("2 more warnings, all else: /home/you/advice/details.txt", lines)
         for it in picks:
             it["caveat"] = "it saves 0.4 %"
+        self.document["picks"] = [*picks, *picks]
         lines = self.verdict()
+        at = lines.index("not recommended, so left out (psql -v all=1 makes them too):")
+        self.assertEqual([it[:3] for it in lines[at + 1 : at + 9]], [f" {number}." for number in range(1, 9)])
         self.assertTrue(lines[0].startswith("No index is plainly worth making for 'shop & <b>', judged by"), lines)
-        self.assertIn("    and 2 more", lines)
+        self.assertEqual(lines[at + 9], "    and 2 more: details.txt")
         self.assertTrue(lines[-1].endswith("-U app -v all=1 -f /home/you/advice/indexes.sql"), lines[-1])
         self.document["picks"] = []
         self.assertTrue(self.verdict()[0].startswith("No index is worth making for"))
+
+    def test_the_details_say_which_sums_are_of_what_is_recommended(self) -> None:
+        from cophy_pg.closing import next_of
+        from cophy_pg.overview import lines_of
+
+        self.five()
+        self.document["recommended"] |= {"picks": 4, "stored_pages": 1280, "cost": 2700000, "server_cost": 4500.0}
+        self.document["picks"][4] |= {"caveat": "it saves 0.4 %", "build_seconds": 3600.0}
+        self.document |= {"stored_pages": 1536, "gap": {"index": "t(c)", "why": "so it is"}, "unused": "5.0 MB stay free"}
+        lines = lines_of(self.document)
+        self.assertTrue(lines[0].startswith("4 indexes to make, 10.0 MB of 2,048.0 MB, and 1 not recommended, 2.0 MB: "))
+        self.assertEqual(lines.count("   not recommended: it saves 0.4 %"), 1)
+        at = next(at for at, it in enumerate(lines) if it.split() == ["before", "after", "with", "all", "bound"])
+        rows = ["our model 9,000 2,700 30.0 % 1,800 20.0 % 1,800", "the server's 9,000 4,500 50.0 % 1,000 11.1 %"]
+        self.assertEqual([" ".join(it.split()) for it in lines[at + 1 : at + 3]], rows)
+        self.assertIn("; most of the gap with all is t(c): so it is", lines[at + 3])
+        self.assertEqual(lines[at + 4], "with all, those not recommended too, 5.0 MB stay free")
+        self.assertTrue(next_of(self.document, "x")[0].startswith("to make them in about 30 seconds, let "))
 
     def test_the_owner_who_is_a_user_here_needs_no_password(self) -> None:
         from cophy_pg.closing import command_of
@@ -217,8 +241,8 @@ class Summary(unittest.TestCase):
         for bound in (1800000, 1700000):
             self.document["cost"]["bound"] = bound
             text = " ".join(self.verdict())
-            self.assertIn("(not proved, as the program is unproved", text)
-            self.assertNotIn("(proved", text)
+            self.assertIn("not proved, as the program is unproved)", text)
+            self.assertNotRegex(text, r"(\(|budget, )proved")
             details = lines_of(self.document)
             self.assertTrue(any(it.endswith("; not proved, as the program is unproved") for it in details), details)
             self.assertNotIn("checked", " ".join(details))

@@ -17,17 +17,38 @@ HERE = ("", "localhost", "127.0.0.1", "::1")
 """Hosts that are this machine; so are folders of sockets."""
 
 
+def recommended_of(document: dict[str, Any]) -> dict[str, Any]:
+    """What those picks take and bring that are recommended, which are all where the document doesn't say."""
+    every = {"cost": document["cost"]["after"], "server_cost": document["server_cost"]["after"]}
+    return document.get("recommended") or {**every, "stored_pages": document["stored_pages"]}
+
+
+def advised_of(document: dict[str, Any]) -> list[dict[str, Any]]:
+    """The picks that are recommended."""
+    return [it for it in document["picks"] if not it.get("caveat")]
+
+
+def is_all_advised(document: dict[str, Any]) -> bool:
+    """Whether all picks are recommended."""
+    return len(advised_of(document)) == len(document["picks"])
+
+
 def costs(document: dict[str, Any]) -> list[str]:
-    """The table of costs before and after, and of the bound."""
-    ours, server = document["cost"], document["server_cost"]
-    before, after, bound = (grouped(it / 1000) for it in (ours["before"], ours["after"], ours["bound"]))
-    server_before, server_after = (grouped(float(server[it])) for it in ("before", "after"))
+    """The table of costs before and after, with all picks where some aren't recommended, and of the bound."""
+    ours, server, found = document["cost"], document["server_cost"], recommended_of(document)
+    after = [(found["cost"], found["server_cost"])]
+    after += [(ours["after"], server["after"])] * (not is_all_advised(document))
     rows = [
-        ["", "before", "after", "", "bound"],
-        ["our model", before, after, share(ours["after"], ours["before"]), bound],
-        ["the server's", server_before, server_after, share(server["after"], server["before"]), ""],
+        ["", "before", *["after", "", "with all", ""][: 2 * len(after)], "bound"],
+        ["our model", grouped(ours["before"] / 1000)],
+        ["the server's", grouped(float(server["before"]))],
     ]
-    widths = [max(len(it[at]) for it in rows) for at in range(5)]
+    for by_us, by_server in after:
+        rows[1] += [grouped(by_us / 1000), share(by_us, ours["before"])]
+        rows[2] += [grouped(float(by_server)), share(by_server, server["before"])]
+    rows[1] += [grouped(ours["bound"] / 1000)]
+    rows[2] += [""]
+    widths = [max(len(it[at]) for it in rows) for at in range(len(rows[0]))]
     return [
         "  ".join(
             cell.ljust(width) if at == 0 else cell.rjust(width) for at, (cell, width) in enumerate(zip(row, widths))
@@ -43,14 +64,14 @@ def end_of(document: dict[str, Any]) -> str:
 
 def _end(document: dict[str, Any]) -> str:
     cost, gap = document["cost"], document.get("gap")
-    fit = f"of {space(document['budget_pages'])}"
-    if cost["after"] == cost["bound"]:
+    fit, every = f"of {space(document['budget_pages'])}", " with all" * (not is_all_advised(document))
+    if recommended_of(document)["cost"] == cost["bound"]:
         return f"by our model no other indexes {fit} cost less"
     if not cost["finished"]:
         return "the search was stopped before its cost reached the bound: a higher --nodes may find better"
     text = f"by our model no indexes {fit} cost less than the bound"
     return text + (
-        f"; most of the gap is {gap['index']}: {gap['why']}" if gap else ", be they left out or against rules"
+        f"; most of the gap{every} is {gap['index']}: {gap['why']}" if gap else ", be they left out or against rules"
     )
 
 
@@ -65,7 +86,8 @@ def next_of(document: dict[str, Any], script: str) -> list[str]:
     doubts = [f"warning: {it}" for it in document.get("doubts", [])]
     if not document["picks"]:
         return doubts
-    known = [it["build_seconds"] for it in document["picks"] if it.get("build_seconds") is not None]
+    made = advised_of(document) or document["picks"]
+    known = [it["build_seconds"] for it in made if it.get("build_seconds") is not None]
     time = f" in about {duration(sum(known))}" if known else ""
     commands = commands_of(document, script)
     whose = "their owner" if len(commands) < 2 else "the owner of each"
@@ -121,5 +143,7 @@ def _plain(name: str) -> str:
 def last_of(document: dict[str, Any]) -> list[str]:
     """What the bound says, why space is left, and from where on more space helps little."""
     is_checked = "; certificate checked" * (proof_of(document) == "proved")
-    more = (document.get(it) for it in ("unused", "knee"))
+    more = [document.get(it) for it in ("unused", "knee")]
+    if more[0] and not is_all_advised(document):
+        more[0] = f"with all, those not recommended too, {more[0]}"
     return [end_of(document) + is_checked, *(it for it in more if it)]

@@ -6,7 +6,7 @@ from typing import Any
 from cophy_text.answers import counted
 from cophy_text.shown import grouped, percent, share, short, space
 from cophy_pg.choice import ASKED, UNTAKEN
-from cophy_pg.closing import costs, last_of
+from cophy_pg.closing import advised_of, costs, last_of, recommended_of
 from cophy_pg.guesses import doubt_of, gains, is_judged, seconds_of, warning_of
 from cophy_pg.recommended import KINDS, LITTLE
 from cophy_pg.rewrite.parse import without_literals
@@ -140,16 +140,16 @@ def listed_numbers(numbers: list[int]) -> str:
 
 def headline(document: dict[str, Any]) -> str:
     """How many indexes there are to make."""
-    count = len(document["picks"])
-    return f"{count} index{'es' * (count != 1)} to make" if count else "no index is worth making"
+    count = len(advised_of(document))
+    plainly = "plainly " * bool(document["picks"])
+    return f"{count} index{'es' * (count != 1)} to make" if count else f"no index is {plainly}worth making"
 
 
 def _head(document: dict[str, Any]) -> str:
-    picks = document["picks"]
-    size = f", {space(document['stored_pages'])} of {space(document['asked_pages'])}" if picks else ""
-    made = [it for it in picks if not it.get("caveat")]
-    if len(made) < len(picks):
-        size += f", of which {len(made)} recommended, {space(sum(it['stored_pages'] for it in made))}"
+    found, every = recommended_of(document)["stored_pages"], document["stored_pages"]
+    made, others = advised_of(document), [it for it in document["picks"] if it.get("caveat")]
+    size = f", {space(found)} of {space(document['asked_pages'])}" if made else ""
+    size += f", and {len(others)} not recommended, {space(every - found)}" if others else ""
     what = f"database {document['database']!a}, {part_of(document)}"
     return f"{headline(document)}{size}: {what}; advised in {_seconds(sum(document['seconds'].values()))}"
 
@@ -179,7 +179,9 @@ def _pick(at: int, pick: dict[str, Any], document: dict[str, Any]) -> list[str]:
     lines = [f"{at}. {it}" if n == 0 else f"   {it}" for n, it in enumerate(pick["statements"])]
     lines += [f"   {space(pick['stored_pages']):>9} {_both(pick['saves'])}  {_for(pick)}"]
     lines += [f"   {taken}"] if taken else []
-    lines += [f"   {it}" for it in (doubt_of(pick) or warning_of(pick, document), warning(pick.get("long", []))) if it]
+    caveat, fails = pick.get("caveat"), warning(pick.get("long", []))
+    why = f"not recommended: {caveat}" if caveat else doubt_of(pick) or warning_of(pick, document)
+    lines += [f"   {it}" for it in (why, fails) if it and it != caveat]
     lines += [f"   unknown: {it}" for it in pick["unknown_for"]]
     lines += [f"   {pick['begins']} begins with its columns"] if pick["begins"] else []
     lines += [f"   beside it {name} is superfluous" for name in pick.get("superfluous", [])]

@@ -11,7 +11,7 @@ from cophy_text import files
 from cophy_text.answers import counted
 from cophy_text.shown import grouped, percent, share, short, space
 from cophy_pg import folder
-from cophy_pg.closing import end_of
+from cophy_pg.closing import end_of, is_all_advised, recommended_of
 from cophy_pg.curves import curve_of
 from cophy_pg.folder import Folder
 from cophy_pg.guesses import doubt_of, warning_of
@@ -92,7 +92,9 @@ def page_text(document: dict[str, Any], plans: dict[str, Any], curve: dict[str, 
         it=document,
         end=end_of(document),
         headline=headline(document),
-        picks=[_pick(it, document) for it in document["picks"]],
+        found=recommended_of(document),
+        some=not is_all_advised(document),
+        picks=[_pick(at, it, document) for at, it in enumerate(document["picks"], 1)],
         left_out=[{"index": named(it), "pages": it["pages"], "why": it["why"]} for it in document["left_out"]],
         statements=_statements(document, plans),
         skipped=_skipped(document),
@@ -131,7 +133,7 @@ def _cost(number: float) -> str:
     return f"{number:,.1f}" if abs(number) < 1000 else grouped(float(number))
 
 
-def _pick(pick: dict[str, Any], document: dict[str, Any]) -> dict[str, Any]:
+def _pick(place: int, pick: dict[str, Any], document: dict[str, Any]) -> dict[str, Any]:
     changes = [
         {"seconds": None} | it | {"anchor": _anchor(it), "name": name_of(it)} for it in pick["changes"] if is_seen(it)
     ]
@@ -142,6 +144,7 @@ def _pick(pick: dict[str, Any], document: dict[str, Any]) -> dict[str, Any]:
         "caveat": None,
         "superfluous": [],
         **pick,
+        "place": place,
         "index": named(pick),
         "listed": changes,
         **more,

@@ -8,7 +8,7 @@ from cophy_text import files
 from cophy_text.answers import counted
 from cophy_text.shown import percent, share, short, space
 from cophy_pg import folder
-from cophy_pg.closing import commands_of, proof_of
+from cophy_pg.closing import commands_of, is_all_advised, proof_of, recommended_of
 from cophy_pg.folder import Folder
 from cophy_pg.guesses import gains, is_judged
 from cophy_pg.overview import headline, measured, much_skipped, named, part_of
@@ -19,7 +19,7 @@ SQL, LONGEST = 34, 40
 """So many characters of a statement are shown, and such a name of an index has others in its column."""
 MOST_WARNINGS = 2
 """Where there are no more warnings, the summary has them, each up to what ends it."""
-MOST_UNADVISED = 3
+MOST_UNADVISED = 8
 
 
 def verdict(document: dict[str, Any], kept: Folder) -> list[str]:
@@ -49,13 +49,9 @@ def _sentence(document: dict[str, Any], count: int) -> str:
     """What to do, what that brings, and how sure it is."""
     judged = f"judged by {part_of(document)}"
     if not count:
-        what = headline(document) if not document["picks"] else "No index is plainly worth making"
+        what = headline(document)
         return f"{what[0].upper()}{what[1:]} for {document['database']!a}, {judged}."
-    found = document.get("recommended") or {
-        "stored_pages": document["stored_pages"],
-        "cost": document["cost"]["after"],
-        "server_cost": document["server_cost"]["after"],
-    }
+    found = recommended_of(document)
     ours, server = document["cost"], document["server_cost"]
     what = f"Make {'this index' if count == 1 else f'these {count} indexes'}, {space(found['stored_pages'])}"
     saved = _saved(found["server_cost"], server["before"])
@@ -65,9 +61,10 @@ def _sentence(document: dict[str, Any], count: int) -> str:
     if found["cost"] == ours["bound"]:
         text += f", the most that this budget can save ({proof_of(document)})"
     else:
-        gap = document.get("gap")
+        # What isn't recommended is part of the rest, and is listed below.
+        gap = document.get("gap") if is_all_advised(document) else None
         rest = f"; the rest is mostly {gap['index']}: {gap['why']}" if gap else ""
-        text += f" ({proof_of(document)}: at most {most} within this budget{rest})"
+        text += f" (at most {most} within this budget, {proof_of(document)}{rest})"
     return f"{text}; {judged}."
 
 
@@ -95,7 +92,8 @@ def _unadvised(listed: list[tuple[int, dict[str, Any]]]) -> list[str]:
         return []
     lines = ["", "not recommended, so left out (psql -v all=1 makes them too):"]
     lines += [f"{_begin(at, it)}  {named(it)}: {it['caveat']}" for at, it in listed[:MOST_UNADVISED]]
-    return lines + [f"    and {len(listed) - MOST_UNADVISED} more"] * bool(listed[MOST_UNADVISED:])
+    rest = len(listed) - MOST_UNADVISED
+    return lines + [f"    and {rest} more: {folder.DETAILS}"] * (rest > 0)
 
 
 def _rest(document: dict[str, Any], kept: Folder) -> list[str]:
