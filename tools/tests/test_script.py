@@ -158,9 +158,7 @@ class Script(OverOwn):
             [*re.findall(r"^-- (\d\. \S+)$", text, re.MULTILINE)], ["1. parent(a)", "2. plain(a)", "3. plain(b)"]
         )
         said = self.run_script(text, "-v", "without=1, 3")
-        self.assertRegex(
-            said, r"\A1 of 3: parent\(a\), .*\n1 is left out\n2 of 3: plain\(a\).*\n3 of 3.*\n3 is left out\ndone\n\Z"
-        )
+        self.assertRegex(said, r"\A2 of 3: plain\(a\), .*\nnot made: 1\. parent\(a\), 3\. plain\(b\)\ndone\n\Z")
         self.assertEqual(self.names(), ["plain_a_idx"])
         self.run_script(text)
         self.assertEqual(len(self.names()), 4)
@@ -215,13 +213,14 @@ class Script(OverOwn):
         self.server.psql("DROP INDEX plain_b_idx", "making")
 
     def test_what_is_not_recommended_is_made_where_that_is_asked_for(self) -> None:
-        text = self.script(("plain(a)", "plain(b)"), "--unadvised", "2")
+        text = self.script(("plain(a)", "plain(b)", "parted(kind, day)"), "--unadvised", "2,3")
         self.assertIn("-- 2. plain(b): not recommended\n", text)
-        self.assertIn("2 is left out\n", self.run_script(text))
+        said = self.run_script(text)
+        self.assertRegex(said, r"\A1 of 3: .*\nnot made: 2\. plain\(b\), 3\. parted\(kind, day\)\ndone\n\Z")
         self.assertEqual(self.names(), ["plain_a_idx"])
-        self.run_script(text, "-v", "all=1")
-        self.assertEqual(self.names(), ["plain_a_idx", "plain_b_idx"])
-        self.run_script(text, "-v", "undo=1")
+        self.assertNotIn("not made", self.run_script(text, "-v", "all=1"))
+        self.assertEqual([it for it in self.names() if it.startswith("plain")], ["plain_a_idx", "plain_b_idx"])
+        self.assertNotIn("not made", self.run_script(text, "-v", "undo=1"))
         self.assertEqual(self.names(), [])
 
     def test_a_name_that_another_index_has_is_left_alone(self) -> None:

@@ -11,7 +11,7 @@ from cophy_text.answers import counted
 from cophy_text.shown import space
 from cophy_pg.ddl import Laid, Made, Named, written_path, written_text
 from cophy_pg.schema import Schema, Table
-from cophy_pg.script_sql import BEGIN, GO_ON, INDEX, LAID, PARTS, REFUSE, STATE, STOP, TELL
+from cophy_pg.script_sql import BEGIN, GO_ON, INDEX, LAID, PARTS, PASSED, REFUSE, STATE, STOP, TELL
 from cophy_pg.server import OWN
 from cophy_pg.sizes import stored_pages
 from cophy_pg.speed import Speed, duration
@@ -42,6 +42,7 @@ def _text(
     parted = [it for it in listed if _table(schema, it).is_partitioned]
     prepared = [INDEX.replace("COUNT", str(len(listed)))] * any(it.indexes for it in listed if it not in parted)
     prepared += [STATE, PARTS] * bool(parted) + [LAID] * any(it.laid is not None for it in listed)
+    prepared += [PASSED] * bool(listed)
     begin = BEGIN.replace("UNADVISED", ",".join(map(str, unadvised)))
     lines = [*_told(schema, listed, speed, unadvised), *head, ""]
     lines += [begin + _refuse(listed) + "".join(prepared) + GO_ON]
@@ -52,7 +53,9 @@ def _text(
             *_about(schema, it, it.place in unadvised, gains.get(it.pick.number, "")),
             *_steps(schema, it, speed, len(listed)),
         ]
-    return _marked("\n".join([*lines, "", STOP, TELL, "\\echo done", ""]))
+    names = ",".join(written_text(f"{it.place}.{it.pick.shown().replace(', ', ',')}") for it in listed)
+    passed = [f"EXECUTE cophy_passed (ARRAY[{names}]);"] * bool(listed)
+    return _marked("\n".join([*lines, "", STOP, TELL, *passed, "\\echo done", ""]))
 
 
 def _about(schema: Schema, made: Made, is_unadvised: bool, gain: str) -> list[str]:
@@ -69,19 +72,18 @@ def _steps(schema: Schema, made: Made, speed: Speed, count: int) -> list[str]:
         about = f"about {space(stored_pages(schema, made.pick) or made.pick.pages)} and {speed.of_index(table)}"
     say = f"\\echo '{made.place} of {count}: {made.pick.shown()}, {about}'"
     if table.is_partitioned:
-        return _alone(made, _undo_parts(table, made), [say, *_make_parts(table, made)], True)
+        return _alone(made, _undo_parts(table, made), [say, *_make_parts(table, made)])
     lines = _make(made, about)
     if made.laid is None:
         return lines
     lay = [*[say] * (not lines), *_lay(made, made.laid, speed.told(table, len(made.indexes)))]
-    return [*_alone(made, _stand(made, made.laid), [], not lines), *lines, *_alone(made, [], lay, False)]
+    return [*_alone(made, _stand(made, made.laid), []), *lines, *_alone(made, [], lay)]
 
 
-def _alone(made: Made, undo: list[str], make: list[str], says: bool) -> list[str]:
+def _alone(made: Made, undo: list[str], make: list[str]) -> list[str]:
     """Steps that stop at a fault, once all before them are done, unless the pick is left out."""
     asked = f"SELECT '{made.place}' = ANY (string_to_array(replace(:'without', ' ', ''), ',')) AS is_out \\gset"
-    lines = [STOP, TELL, asked, "\\if :is_out", *[f"    \\echo '{made.place} is left out'"] * says]
-    return [*lines, "\\elif :is_undo", *undo, "\\else", *make, "\\endif", GO_ON]
+    return [STOP, TELL, asked, "\\if :is_out", "\\elif :is_undo", *undo, "\\else", *make, "\\endif", GO_ON]
 
 
 def _marked(text: str) -> str:

@@ -60,26 +60,30 @@ WITH index AS (
         NOT is_out AND :'is_undo' AS is_back, format('%s: %s ', $5, regexp_replace($2, '[^A-Za-z0-9_]', '?', 'g')) AS told FROM asked
 )
 SELECT '{OWN} ' || step FROM todo, LATERAL (VALUES
-    (1, $7 <> '' AND NOT :'is_undo', format('SELECT %L', format('%s of COUNT: %s, %s', $5, $6, $7))),
-    (2, $7 <> '' AND is_out, format('SELECT %L', $5 || ' is left out')),
-    (3, is_in AND is_there, 'SELECT ''it is there already'''),
-    (4, is_in AND is_other, format('SET cophy.fault TO %L', format('the index %s can not be made: its name is taken by another', $6))),
-    (5, is_new AND is_invalid, 'SELECT ''an earlier run left it INVALID, so it is dropped first'''),
-    (6, is_new AND is_invalid OR is_back AND is_own, format('DROP INDEX CONCURRENTLY %s', name)),
-    (7, is_new, $8),
-    (8, is_new, format('DO %L', format('DECLARE is_valid bool := (SELECT indisvalid AND indisready FROM pg_index WHERE indexrelid = '
+    (1, $7 <> '' AND NOT is_out AND NOT :'is_undo', format('SELECT %L', format('%s of COUNT: %s, %s', $5, $6, $7))),
+    (2, is_in AND is_there, 'SELECT ''it is there already'''),
+    (3, is_in AND is_other, format('SET cophy.fault TO %L', format('the index %s can not be made: its name is taken by another', $6))),
+    (4, is_new AND is_invalid, 'SELECT ''an earlier run left it INVALID, so it is dropped first'''),
+    (5, is_new AND is_invalid OR is_back AND is_own, format('DROP INDEX CONCURRENTLY %s', name)),
+    (6, is_new, $8),
+    (7, is_new, format('DO %L', format('DECLARE is_valid bool := (SELECT indisvalid AND indisready FROM pg_index WHERE indexrelid = '
         'to_regclass(%1$L)); BEGIN IF is_valid THEN COMMENT ON INDEX %1$s IS %2$L; ELSE PERFORM set_config(%3$L, %4$L, false); '
         'END IF; IF NOT is_valid THEN RAISE WARNING %5$L; END IF; END', name, :'mark', 'cophy.fault',
         format('the index %s was not made: run the script again, or with -v undo=1', $6),
         'it is left INVALID: it serves no query, and each write pays for it'))),
-    (9, is_back AND is_own, format('SELECT %L', told || 'is dropped')),
-    (10, is_back AND is_there AND NOT is_own, format('SELECT %L', told || 'stays: this script did not make it'))
+    (8, is_back AND is_own, format('SELECT %L', told || 'is dropped')),
+    (9, is_back AND is_there AND NOT is_own, format('SELECT %L', told || 'stays: this script did not make it'))
 ) steps (at, is_asked, step) WHERE is_asked AND current_setting('cophy.fault') = '' ORDER BY at;
 """
 GO_ON, STOP = "\\set ON_ERROR_STOP :is_undo", "\\set ON_ERROR_STOP on"
 """What is made goes on to where a fault is told; what is dropped stops."""
 TELL = """DO 'BEGIN IF current_setting(''cophy.fault'') <> '''' THEN RAISE EXCEPTION ''%'', current_setting(''cophy.fault''); END IF; END';"""
 """Ends the script with what wasn't made."""
+PASSED = rf"""PREPARE cophy_passed (text[]) AS {OWN}
+SELECT 'not made: '||string_agg(regexp_replace(name,'([.,])','\1 ','g'),', ') FROM unnest($1) name
+WHERE NOT :'is_undo' AND :'without'~('\m'||split_part(name,'.',1)||'\M') HAVING count(*)>0;
+"""
+"""Names what was passed over."""
 STATE = f"PREPARE cophy_state (text, text, text, text[]) AS {OWN}\n{_STATE};\n"
 # Each part of a partitioned table with its index and that of the part above, by names of at most 63 bytes.
 PARTS = f"""PREPARE cophy_parts (int, text, text, text, text) AS {OWN}
