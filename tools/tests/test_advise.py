@@ -173,7 +173,9 @@ class Advise(OverShop):
         sql = r"SELECT id FROM sales\.orders WHERE total =\.\.\."
         row = rf" +[\d.]+ MB +\d+\.\d +\d+\.\d  statement 1, 40 calls: {sql}\n"
         self.assertRegex(text, rf"\n1\. {ddl}\n{row}")
-        self.assertRegex(text, r"\nour model +[0-9,]+ +[0-9,]+ +\d+\.\d %  +[0-9,]+\nthe server's +[0-9,]+ +[0-9,]+ ")
+        self.assertRegex(
+            text, r"\nour model +[0-9,]+( +[0-9,]+ +\d+\.\d %){2}  +[0-9,]+\nthe server's +[0-9,]+ +[0-9,]+ "
+        )
         self.assertIn("statement 5: 42883 a function or an operator isn't there", text)
         end = r"by our model no (other )?indexes of [\d.,]+ MB cost less.*; certificate checked\n"
         self.assertRegex(text, end)

@@ -171,6 +171,18 @@ class Summary(unittest.TestCase):
         self.document["picks"] = []
         self.assertTrue(self.verdict()[0].startswith("No index is worth making for"))
 
+    def test_a_doubt_of_who_has_all_power_there_is_for_the_details_alone(self) -> None:
+        self.five()
+        names = ("'app'", "'boss' and 'app'", "'other'", "'app' and 'other'")
+        doubts = [f"the advice stands unless you distrust {it}, who may replace it; {it}" for it in names]
+        self.document |= {"owners": ["app"], "database_owner": "boss"}
+        for doubt, is_told in zip(doubts, (False, False, True, True)):
+            self.document["doubts"] = [doubt]
+            self.assertEqual(f"warning: {doubt.partition(';')[0]}" in self.verdict(), is_told, doubt)
+        # Who owns some tables only could fake what is advised for others.
+        self.document |= {"owners": ["app", "other"], "doubts": doubts[:1]}
+        self.assertIn(f"warning: {doubts[0].partition(';')[0]}", self.verdict())
+
     def test_the_details_say_which_sums_are_of_what_is_recommended(self) -> None:
         from cophy_pg.closing import next_of
         from cophy_pg.overview import lines_of
@@ -178,9 +190,15 @@ class Summary(unittest.TestCase):
         self.five()
         self.document["recommended"] |= {"picks": 4, "stored_pages": 1280, "cost": 2700000, "server_cost": 4500.0}
         self.document["picks"][4] |= {"caveat": "it saves 0.4 %", "build_seconds": 3600.0}
-        self.document |= {"stored_pages": 1536, "gap": {"index": "t(c)", "why": "so it is"}, "unused": "5.0 MB stay free"}
+        self.document |= {
+            "stored_pages": 1536,
+            "gap": {"index": "t(c)", "why": "so it is"},
+            "unused": "5.0 MB stay free",
+        }
         lines = lines_of(self.document)
-        self.assertTrue(lines[0].startswith("4 indexes to make, 10.0 MB of 2,048.0 MB, and 1 not recommended, 2.0 MB: "))
+        self.assertTrue(
+            lines[0].startswith("4 indexes to make, 10.0 MB of 2,048.0 MB, and 1 not recommended, 2.0 MB: ")
+        )
         self.assertEqual(lines.count("   not recommended: it saves 0.4 %"), 1)
         at = next(at for at, it in enumerate(lines) if it.split() == ["before", "after", "with", "all", "bound"])
         rows = ["our model 9,000 2,700 30.0 % 1,800 20.0 % 1,800", "the server's 9,000 4,500 50.0 % 1,000 11.1 %"]

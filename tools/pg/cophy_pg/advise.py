@@ -47,11 +47,12 @@ from cophy_pg.sizes import stored_size
 from cophy_pg.snapshots import taken_of
 from cophy_pg.statistics import Found
 from cophy_pg.steps import Steps
-from cophy_pg.trust import owners_of, refuse_powers
+from cophy_pg.trust import database_owner, owners_of, refuse_powers
 from cophy_pg.verdict import verdict
 from cophy_pg.verify import advice_text, as_json, look_up
 from cophy_pg.why import reasons
 from cophy_pg.workload import Workload, made
+from cophy_pg.writes import indexes_of
 
 UNPROVED = "the program is unproved: no proof says that its costs and bounds are those of the model"
 NOTHING = 3
@@ -100,6 +101,7 @@ class Run:
         self.rules = Rules()
         self.head: dict[str, Any] = {}
         self.owners: dict[str, str] = {}
+        self.indexes: dict[str, int] = {}
         self.warnings: list[str] = []
 
     def document(self) -> dict[str, Any]:
@@ -140,7 +142,7 @@ class Run:
         parts = (found.schema, workload, advice, choice, judged, plans, (none, kept, all_), reason, proved)
         self._tell_rest(found.schema, advice, choice, unused)
         self.head["knee"] = knee_of(points, none.total)
-        result = Result(*parts, self.head, told, self.steps.seconds, owners=self.owners)
+        result = Result(*parts, self.head, told, self.steps.seconds, self.owners, self.indexes)
         self.steps.begin("recommending")
         with self.steps.step("recommend", "telling what is plainly worth it"):
             asked = {it.number for it in choice.advice.picks if self.rules.asks_for(it)}
@@ -152,11 +154,14 @@ class Run:
         return result.document()
 
     def _tell_owners(self, server: Server, schema: Schema, choice: Choice) -> None:
-        """Who owns the tables of the picks, the owner of the most first."""
+        """Who owns the tables of the picks, the owner of the most first, and how many indexes they have."""
         picked = {it.table for it in choice.advice.picks}
         tables = [it for it in schema.tables.values() if it.shown in picked]
         with reading(server):
             found = owners_of(server, [it.oid for it in tables])
+            had = indexes_of(server, [it.oid for it in tables])
+            self.head["database_owner"] = database_owner(server)
+        self.indexes = {it.shown: had.get(it.oid, 0) for it in tables}
         counts = Counter(found.values())
         self.head["owners"] = sorted(counts, key=lambda it: (-counts[it], it))
         self.owners = {it.shown: found[it.oid] for it in tables if it.oid in found}

@@ -11,6 +11,7 @@ from cophy_text.shown import grouped, share, space
 from cophy_pg import folder
 from cophy_pg.folder import Folder
 from cophy_pg.speed import duration
+from cophy_pg.trust import DISTRUST, WHO
 
 NOT_PROVED = "not proved, as the program is unproved"
 HERE = ("", "localhost", "127.0.0.1", "::1")
@@ -21,6 +22,17 @@ def recommended_of(document: dict[str, Any]) -> dict[str, Any]:
     """What those picks take and bring that are recommended, which are all where the document doesn't say."""
     every = {"cost": document["cost"]["after"], "server_cost": document["server_cost"]["after"]}
     return document.get("recommended") or {**every, "stored_pages": document["stored_pages"]}
+
+
+def doubts_of(document: dict[str, Any]) -> list[str]:
+    """The doubts, but for those of roles alone that own the database or all tables of the picks: they have all power there."""
+    owners = document["owners"]
+    known = {ascii(it) for it in (document.get("database_owner"), *owners[: len(owners) == 1]) if it}
+    return [
+        it
+        for it in document.get("doubts", [])
+        if not {*it.removeprefix(DISTRUST).partition(WHO)[0].split(" and ")} <= known
+    ]
 
 
 def advised_of(document: dict[str, Any]) -> list[dict[str, Any]]:

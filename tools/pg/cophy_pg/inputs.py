@@ -18,7 +18,7 @@ from cophy_pg.progress import say
 from cophy_pg.rewrite.parse import fingerprint_of
 from cophy_pg.server import OWN, Row, Server, ServerFault, quoted_name, version_of
 from cophy_pg.speed import duration
-from cophy_pg.trust import has_power, view_of
+from cophy_pg.trust import DISTRUST, WHO, has_power, view_of
 
 EXTENSION = "pg_stat_statements"
 SHORT = 3600
@@ -115,8 +115,7 @@ def _doubt(server: Server, who: str, where: str, warn: Callable[[str], None], is
             "or give the statements by --sql or --log, or the schema to a superuser"
         )
     moved = f"CREATE SCHEMA counted; GRANT USAGE ON SCHEMA counted TO PUBLIC; ALTER EXTENSION {EXTENSION} SET SCHEMA counted;"
-    what = f"who may replace {EXTENSION} in schema {where!a}"
-    warn(f"the advice stands unless you distrust {who}, {what}; a superuser ends that by: {moved}")
+    warn(f"{DISTRUST}{who}{WHO}replace {EXTENSION} in schema {where!a}; a superuser ends that by: {moved}")
 
 
 _EXPLAIN = re.compile(

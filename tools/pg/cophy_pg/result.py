@@ -1,6 +1,7 @@
 """All that `advise` found, as one document of JSON, whose form is `advice.schema.json`."""
 from __future__ import annotations
 
+from collections import Counter
 from dataclasses import dataclass, field
 from typing import Any
 
@@ -22,11 +23,12 @@ from cophy_pg.verify import Judged
 from cophy_pg.why import Reason
 from cophy_pg.workload import Record, Workload
 from cophy_pg.worth import worth_of
+from cophy_pg.writes import writes_of
 
 
 @dataclass
 class Result:
-    """What each step found. `prices` are ours without picks, with those that stay, and with all of the advice; a price of
+    """What each step found. `indexes` says how many a table of the picks has. `prices` are ours without picks, with those that stay, and with all of the advice; a price of
     ours is in thousandths of a page read."""
 
     schema: Schema
@@ -42,6 +44,7 @@ class Result:
     told: dict[str, list[str]]
     seconds: dict[str, float] = field(default_factory=dict)
     owners: dict[str, str] = field(default_factory=dict)
+    indexes: dict[str, int] = field(default_factory=dict)
     recommended: Recommended | None = None
 
     def document(self) -> dict[str, Any]:
@@ -64,6 +67,7 @@ class Result:
             },
             "server_cost": {"statements": count, "before": before, "after": after},
             "recommended": self._recommended(),
+            "writes": self._writes(),
             "proved": self.proved,
             "calls_divided_by": self.workload.divisor,
             **self.told,
@@ -101,6 +105,14 @@ class Result:
             "cost": ours,
             "server_cost": server,
         }
+
+    def _writes(self) -> list[dict[str, Any]]:
+        """The writes that have more indexes to keep by what is recommended."""
+        calls = Counter[int]()
+        for it in self.workload.records:
+            calls.update({at: it.input.calls for at in it.numbers})
+        advised = [it for it in self.reasons if not self._caveat(it.pick.number)]
+        return writes_of(advised, [text for text, _ in self.workload.statements], calls, self.indexes)
 
     def plain_picks(self) -> list[dict[str, Any]]:
         """The picks, those that save the most first, by names that are given in this order."""

@@ -144,6 +144,11 @@ WHERE pg_catalog.pg_has_role(session_user, c.relowner, 'MEMBER') ORDER BY 1, 2 L
 _OWNERS = """
 SELECT c.oid::pg_catalog.int8, r.rolname::text FROM pg_catalog.pg_class c JOIN pg_catalog.pg_roles r ON r.oid = c.relowner
 WHERE c.oid = ANY(%s::pg_catalog.oid[])"""
+DISTRUST, WHO = "the advice stands unless you distrust ", ", who may "
+"""How a doubt begins, and what follows the roles that it is of."""
+_DATABASE_OWNER = """
+SELECT r.rolname::text FROM pg_catalog.pg_database d JOIN pg_catalog.pg_roles r ON r.oid = d.datdba
+WHERE d.datname = pg_catalog.current_database()"""
 
 
 class NotTrusted(ServerFault):
@@ -230,6 +235,11 @@ def refuse_owner(server: Server, names: Names, tables: Iterable[int]) -> None:
 def owners_of(server: Server, tables: Sequence[int]) -> dict[int, str]:
     """The role that owns each table."""
     return {int(oid): str(owner) for oid, owner in server.rows(_OWNERS, ([*tables],))}
+
+
+def database_owner(server: Server) -> str:
+    """The role that owns the database."""
+    return str(server.value(_DATABASE_OWNER))
 
 
 def functions_of_users(server: Server, names: Names, tables: Iterable[int]) -> list[str]:

@@ -8,11 +8,12 @@ from cophy_text import files
 from cophy_text.answers import counted
 from cophy_text.shown import percent, share, short, space
 from cophy_pg import folder
-from cophy_pg.closing import commands_of, is_all_advised, proof_of, recommended_of
+from cophy_pg.closing import commands_of, doubts_of, is_all_advised, proof_of, recommended_of
 from cophy_pg.folder import Folder
 from cophy_pg.guesses import gains, is_judged
 from cophy_pg.overview import headline, measured, much_skipped, named, part_of
 from cophy_pg.speed import duration
+from cophy_pg.writes import told
 
 WIDTH, KEPT = 100, "\N{NO-BREAK SPACE}"
 SQL, LONGEST = 34, 40
@@ -102,10 +103,11 @@ def _rest(document: dict[str, Any], kept: Folder) -> list[str]:
     made = [it for it in document["picks"] if not it.get("caveat")] or document["picks"]
     if names := [*dict.fromkeys(name for it in made for name in it.get("superfluous", []))]:
         lines += [f"superfluous beside them: {', '.join(names)}"]
+    lines += told(document.get("writes", []))
     if much := much_skipped(document):
         what = "time" if measured(document) == "seconds" else "calls"
         lines += [f"no index is advised for skipped statements with {much} of the {what}"]
-    warnings = [*document["warnings"], *document.get("doubts", [])]
+    warnings = [*document["warnings"], *doubts_of(document)]
     shown = warnings if len(warnings) <= MOST_WARNINGS else [it for it in warnings if it.endswith(" leaves them out")]
     lines += [f"warning: {it.partition('; ')[0]}" for it in shown]
     rest = len(warnings) - len(shown)

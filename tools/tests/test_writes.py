@@ -1,0 +1,45 @@
+"""Which writes are told to have more indexes to keep."""
+from __future__ import annotations
+
+import unittest
+
+from cophy_text.answers import Candidate
+from cophy_pg.why import Reason
+from cophy_pg.writes import told, writes_of
+
+TEXTS = (
+    "SELECT a FROM t",
+    "INSERT INTO t (a) VALUES (?)",
+    "UPDATE t SET b = ?",
+    "UPDATE u SET c = ?",
+    "UPDATE w SET a = ?",
+)
+CALLS = {1: 900, 2: 70, 3: 80, 4: 7, 5: 6}
+
+
+def reason(number: int, table: str, changes: dict[int, int]) -> Reason:
+    """A pick with what it changes of the statements."""
+    return Reason(Candidate(number, table, ("a",), 9), 1000, changes)
+
+
+class Writes(unittest.TestCase):
+    def test_the_tables_that_are_written_the_most_are_told_with_their_indexes(self) -> None:
+        picks = [
+            reason(1, "t", {1: 500, 2: -3}),
+            reason(2, "t", {1: 400, 2: -3, 3: -5}),
+            reason(3, "u", {1: 300}),
+            reason(4, "u", {1: 300, 4: -1}),
+            reason(5, "v", {1: 200}),
+            reason(6, "w", {1: 100, 5: -2}),
+        ]
+        found = writes_of(picks, TEXTS, CALLS, {"t": 4, "u": 1, "w": 2})
+        rows = [tuple(it.values()) for it in found]
+        self.assertEqual(rows, [("INSERT", "t", 70, 2, 2, 4), ("UPDATE", "u", 7, 1, 2, 1), ("UPDATE", "w", 6, 1, 1, 2)])
+        line = "writes: INSERT into t has 2 indexes more to keep (4 to 6), UPDATE of u has 1 index more to keep"
+        self.assertEqual(told(found), [line])
+        self.assertEqual(told(found[2:]), ["writes: UPDATE of w has 1 index more to keep (2 to 3)"])
+        self.assertEqual(told(writes_of(picks[2:3], TEXTS, CALLS, {})), [])
+
+
+if __name__ == "__main__":
+    unittest.main()
