@@ -117,7 +117,10 @@ class Translation:
             written = read_line(line)
             made = list(dict.fromkeys(it.line() for it in self._made(number, written)))
         except Unknown as fault:
-            (self.remarks if self.skips_unknown else self.faults).append(f"line {number}: {fault}")
+            if self.skips_unknown:
+                self.remarks.append(f"line {number}: {fault}, or no statement names it")
+            else:
+                self.faults.append(f"line {number}: {fault}")
         except NoRule as fault:
             self.faults.append(f"line {number}: {fault}")
         else:
