@@ -229,30 +229,6 @@ class Page(InFolder):
         self.assertIn("<b>27.0\N{NO-BREAK SPACE}%</b> by our model", raw)
         self.assertIn("<b>0.2\N{NO-BREAK SPACE}MB</b>", raw)
 
-    def test_what_isnt_recommended_stands_apart_with_its_reason_once(self) -> None:
-        self.assertNotIn("ot recommended", self.page())
-        pick = self.document["picks"][0] | {"clustered": False, "outcome": "taken", "notes": []}
-        saves = {"saves": {"ours": 27.0, "server": 3.3, "measured": None, "cost_without": 4500000}}
-        why = "the server saves 3.3 %: probably not worth 0.2 MB"
-        self.document["picks"] = [pick | saves | {"columns": ["c"], "caveat": why}, pick]
-        self.document |= {"recommended": {"picks": 1, "stored_pages": 640, "cost": 4500000, "server_cost": 2700.0}}
-        self.write()
-        made, _, others = self.page().partition('<h2 id="unadvised">Not recommended</h2>')
-        for part in (
-            "1 index to make for shop",
-            "<b>50.0 %</b>of the cost before: 9,000, then 4,500",
-            "<b>30.0 %</b>of the cost before: 9,000, then 2,700",
-            "<b>5.0 MB</b>of 2,048.0 MB",
-            "<h3>2. t(b)</h3>",
-        ):
-            self.assertIn(part, made)
-        self.assertNotIn("<h3>1. t(c)</h3>", made)
-        self.assertIn("<h3>1. t(c)</h3>", others)
-        self.assertNotIn("<h3>2.", others)
-        self.assertEqual(others.count("he server saves 3.3 %"), 1)
-        with_all = "costs 1,800 by our model and 1,000 by the server's planner, and the indexes take 0.2 MB"
-        self.assertIn(with_all, others)
-
     def test_a_pick_that_rests_on_a_guess_and_on_little_time_is_marked(self) -> None:
         self.document["picks"][0]["changes"][0] |= {"guess": True, "seconds": 0.02}
         self.write()

@@ -8,7 +8,7 @@ from typing import Any
 from unittest import mock
 
 from private_server import PrivateServer, has_extension, missing
-from test_page import MISSING, change
+from test_page import MISSING, change, document, plans
 
 NO_SERVER = missing() or ("" if has_extension("hypopg") else "postgresql-15-hypopg isn't installed")
 INDEXES = """CREATE SCHEMA hypopg; CREATE EXTENSION hypopg SCHEMA hypopg; CREATE TABLE t (a int, b int, c text);
@@ -67,6 +67,33 @@ class Recommended(unittest.TestCase):
         self.assertEqual(asked, [[1, 2, 3], [1], [1, 2], [1]])
         found = without_caveats(picks, {2: "it saves 0.2 %"}, (300, 300.0), (1000, 1000.0), costs_of)
         self.assertEqual((found.why_not, found.costs), ({2: "it saves 0.2 %"}, (300, 300.0)))
+
+    def test_what_isnt_recommended_stands_apart_with_its_reason_once(self) -> None:
+        from cophy_pg.page import page_text
+
+        given = document("/advice")
+        self.assertNotIn("ot recommended", page_text(given, plans(), None))
+        pick = given["picks"][0] | {"clustered": False, "outcome": "taken", "notes": []}
+        saves = {"saves": {"ours": 27.0, "server": 3.3, "measured": None, "cost_without": 4500000}}
+        why = "the server saves 3.3 %: probably not worth 0.2 MB"
+        given["picks"] = [pick | saves | {"columns": ["c"], "caveat": why}, pick]
+        given |= {"recommended": {"picks": 1, "stored_pages": 640, "cost": 4500000, "server_cost": 2700.0}}
+        text = page_text(given, plans(), None).replace("\N{NO-BREAK SPACE}", " ")
+        made, _, others = text.partition('<h2 id="unadvised">Not recommended</h2>')
+        for part in (
+            "1 index to make for shop",
+            "<b>50.0 %</b>of the cost before: 9,000, then 4,500",
+            "<b>30.0 %</b>of the cost before: 9,000, then 2,700",
+            "<b>5.0 MB</b>of 2,048.0 MB",
+            "<h3>2. t(b)</h3>",
+        ):
+            self.assertIn(part, made)
+        self.assertNotIn("<h3>1. t(c)</h3>", made)
+        self.assertIn("<h3>1. t(c)</h3>", others)
+        self.assertNotIn("<h3>2.", others)
+        self.assertEqual(others.count("he server saves 3.3 %"), 1)
+        with_all = "costs 1,800 by our model and 1,000 by the server's planner, and the indexes take 0.2 MB"
+        self.assertIn(with_all, others)
 
 
 @unittest.skipIf(MISSING or NO_SERVER, MISSING or NO_SERVER)
