@@ -17,23 +17,15 @@ from contextlib import suppress
 from pathlib import Path
 from typing import Any
 
-from fixtures import ADVISOR, COPHY, NO_HYPOPG, ROOT, STAND_IN, TOOL, OverShop, called
+from advised import HAS_JINJA, QUERIES, SCHEMA, OverSql
+from fixtures import ADVISOR, COPHY, NO_HYPOPG, STAND_IN, TOOL, called
 from patience import LONG
 from schema_check import faults
 
-SCHEMA = json.loads((ROOT / "tools" / "pg" / "cophy_pg" / "advice.schema.json").read_text())
-QUERIES = """SELECT id, name FROM customer WHERE city = 'City 3';
--- weight 40
-SELECT id FROM sales.orders WHERE total = 17.75 ORDER BY id;
-SELECT p.title FROM line l JOIN product p ON l.product_id = p.id WHERE p.category = 3 AND l.quantity = 4;
-UPDATE customer SET city = 'City 9' WHERE id = 12;
-SELECT name FROM customer WHERE no_function(city) = 1;
-"""
 FILES = (
     "advice.json advice.txt catalogue.toml certificate check.txt commands.txt curve.json database.toml details.txt export.txt indexes.sql kept.txt lint.txt "
     "plans.json ruled.txt rules.txt summary.txt verify.json workload.sql"
 ).split()
-HAS_JINJA = importlib.util.find_spec("jinja2") is not None
 HAS_RICH = importlib.util.find_spec("rich") is not None
 
 
@@ -43,10 +35,9 @@ def without_gains(script: str) -> str:
 
 
 @unittest.skipIf(NO_HYPOPG, NO_HYPOPG)
-class Advise(OverShop):
+class Advise(OverSql):
     kept: Path
     first: dict[str, Any]
-    given = {"COPHY_PROGRAM": str(STAND_IN)}
 
     @classmethod
     def setUpClass(cls) -> None:
@@ -60,18 +51,6 @@ class Advise(OverShop):
         ran = called(cls.server, *words, PGUSER="cophy_advisor", **cls.given)
         assert ran.returncode == 0, ran.stderr
         cls.first = json.loads(ran.stdout)
-
-    def setUp(self) -> None:
-        super().setUp()
-        self.sql, self.found = self.folder / "queries.sql", self.folder / "found"
-        self.sql.write_text(QUERIES)
-
-    def advise(self, *more: str, status: int = 0, **environment: str) -> dict[str, Any]:
-        """The document of a call over the file of SQL."""
-        words = ("advise", "--sql", str(self.sql), "--budget", "20MB", "--folder", str(self.found), "--json")
-        found: dict[str, Any] = json.loads(self.call(*words, *more, status=status, **environment).stdout)
-        self.assertEqual([*faults(found, SCHEMA, SCHEMA)], [])
-        return found
 
     def test_it_finds_what_to_make_and_says_what_each_saves(self) -> None:
         found = self.first
@@ -183,113 +162,6 @@ class Advise(OverShop):
         command = f"let their owner run: psql -X {place}"
         self.assertEqual(text.splitlines()[-1], f"to make them in about 1 second, {command}")
         self.assertEqual(short.splitlines()[-1], f"psql -X {place}")
-
-    def test_what_no_plan_takes_is_left_out(self) -> None:
-        self.sql.write_text(QUERIES + "SELECT id FROM product WHERE stock > 0;\n")
-        found = self.advise()
-        why = {f"{it['table']}({', '.join(it['columns'])})": it["why"] for it in found["left_out"]}
-        self.assertEqual(why.get("product(stock)"), "no plan of the server takes it")
-        self.assertEqual(found["rules"], ["never product.title"])
-        self.assertEqual(found["long_columns"], found["rules"])
-        self.assertGreater(found["cost"]["after"], found["cost"]["bound"])
-        self.assertNotIn("product(stock)", (self.found / "kept.txt").read_text())
-        self.assertIn("product(stock)", (self.found / "advice.txt").read_text())
-
-    def test_what_no_plan_takes_makes_room_for_others(self) -> None:
-        self.sql.write_text(
-            "-- weight 3\nSELECT id FROM customer WHERE name > 'A';\nSELECT id FROM customer WHERE city = 'City 3';\n"
-        )
-        found = self.advise(STAND_IN_MOST="1")
-        self.assertEqual([it["columns"] for it in found["picks"]], [["city"]])
-        self.assertEqual(found["rules"], ["never customer(name)"])
-        why = [(it["columns"], it["why"]) for it in found["left_out"]]
-        self.assertEqual(why, [(["name"], "no plan of the server takes it")])
-        self.assertIn("customer(name)", (self.found / "advice.txt").read_text())
-        self.assertNotIn("customer(name)", (self.found / "ruled.txt").read_text())
-        self.assertIn(f"budget {found['budget_pages']}", found["proved"])
-        steps = [shlex.split(it) for it in (self.found / "commands.txt").read_text().splitlines()[2:]]
-        (ruled,) = [it for it in steps if it[1] == "ruled"]
-        few = {**os.environ, "STAND_IN_MOST": "1"}
-        said = subprocess.run(ruled, capture_output=True, check=True, env=few).stdout
-        self.assertEqual(said, (self.found / "ruled.txt").read_bytes())
-        summary = (self.found / "details.txt").read_text()
-        gap = "most of the gap is customer(name): no plan of the server takes it"
-        self.assertIn(f"cost less than the bound; {gap}", summary)
-        self.assertEqual(found["gap"], {"index": "customer(name)", "why": "no plan of the server takes it"})
-
-    def test_rules_say_what_has_to_be_and_what_never_may(self) -> None:
-        rules = self.folder / "rules"
-        rules.write_text("# ours\nnever sales.orders(total)\nmust product(stock)\nnever nowhere\nmust event(kind)\n")
-        self.sql.write_text(QUERIES + "SELECT id FROM product WHERE stock > 0;\n")
-        found = self.advise("--rules", str(rules))
-        self.assertEqual(found["rules"][:2], ["never sales_orders(total)", "must product(stock)"])
-        picks = {f"{it['table']}({', '.join(it['columns'])})": it["outcome"] for it in found["picks"]}
-        self.assertEqual(picks.get("product(stock)"), "not taken")
-        self.assertNotIn("sales_orders(total)", picks)
-        summary = (self.found / "details.txt").read_text()
-        self.assertIn("a rule asks for it, no plan takes it", summary)
-        if HAS_JINJA:
-            self.assertIn("A rule asks for it", (self.found / "report.html").read_text())
-        # No statement names the table event.
-        for number, name in ((4, "nowhere"), (5, "event")):
-            warning = f"rules, line {number}: the catalogue has no table {name!r}, or no statement names it"
-            self.assertIn(warning, found["warnings"])
-        rules.write_text("must product\n")
-        words = (
-            "advise",
-            "--sql",
-            str(self.sql),
-            "--budget",
-            "1MB",
-            "--folder",
-            str(self.found),
-            "--rules",
-            str(rules),
-        )
-        self.assertIn("1 line can't be translated", self.call(*words, status=1).stderr)
-
-    def test_limits_leave_out_what_saves_the_least(self) -> None:
-        self.sql.write_text(QUERIES + "-- weight 5\nSELECT id FROM customer WHERE name = 'Name 3';\n")
-        found = self.advise("--most-per-table", "1")
-        tables = [it["table"] for it in found["picks"]]
-        self.assertEqual(len(tables), len({*tables}))
-        self.assertEqual([it["columns"] for it in found["picks"] if it["table"] == "customer"], [["name"]])
-        found = self.advise("--min-saving", "30")
-        self.assertEqual([it["table"] for it in found["picks"]], ["sales_orders"])
-        why = {it["why"] for it in found["left_out"] if it["table"] == "customer"}
-        told = r"it saves [\d.]+ % by our model, [\d.]+ % by the server's planner; 30 % are asked for\Z"
-        self.assertTrue(why and all(re.match(told, it) for it in why), why)
-
-    def test_what_saves_less_than_planning_takes_longer_is_left_out(self) -> None:
-        found = self.advise("--planning", "1000000")
-        # A statement that names customer can't be explained, so what an index on it saves isn't known.
-        self.assertEqual([it["table"] for it in found["picks"]], ["customer"])
-        self.assertEqual(found["options"]["planning"], 1e6)
-        why = {it["why"] for it in found["left_out"] if it["table"] == "sales_orders"}
-        self.assertEqual(why, {"it saves less time than planning and writing take longer for it"})
-        found = self.advise("--planning", "0")
-        self.assertEqual([it["table"] for it in found["picks"]], [it["table"] for it in self.first["picks"]])
-        words = ("advise", "--sql", str(self.sql), "--budget", "1MB", "--planning", "-1")
-        self.assertIn("argument --planning: invalid", self.call(*words, status=2).stderr)
-
-    def test_statements_are_chosen_by_calls_tables_and_users(self) -> None:
-        found = self.advise("--min-calls", "2")
-        self.assertEqual([it["line"] for it in found["statements"]], [3])
-        found = self.advise("--table", "line", "--table", "sales.orders")
-        self.assertEqual([it["line"] for it in found["statements"]], [3, 4])
-        ran = self.call(
-            "advise",
-            "--budget",
-            "1MB",
-            "--sql",
-            str(self.sql),
-            "--user",
-            "cophy",
-            "--folder",
-            str(self.found),
-            status=1,
-        )
-        self.assertIn("it is known who ran it", ran.stderr)
 
     def test_statuses(self) -> None:
         self.sql.write_text("SELECT id FROM customer WHERE id = 3;\n")

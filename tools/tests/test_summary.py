@@ -171,6 +171,18 @@ class Summary(unittest.TestCase):
         self.document["picks"] = []
         self.assertTrue(self.verdict()[0].startswith("No index is worth making for"))
 
+    def test_a_slow_statement_that_no_index_helps_is_named(self) -> None:
+        self.five()
+        statement = self.document["statements"][0] | {"sql": "SELECT a\nFROM t WHERE lower(b) LIKE 'x%'", "calls": 90}
+        self.document["statements"] = [
+            statement | {"seconds": 3.0, "server_cost": {"before": 100.0, "after": after}} for after in (99.5, 50.0)
+        ]
+        line = "no index here helps, 50.0 % of the time: SELECT a FROM t WHERE lower(b) LIKE 'x%'"
+        self.assertEqual([it for it in self.verdict() if it.startswith("no index here")], [line])
+        # It takes less than five thousandths of a second a call.
+        self.document["statements"][0]["calls"] = 601
+        self.assertEqual([it for it in self.verdict() if it.startswith("no index here")], [])
+
     def test_a_doubt_of_who_has_all_power_there_is_for_the_details_alone(self) -> None:
         self.five()
         names = ("'app'", "'boss' and 'app'", "'other'", "'app' and 'other'")

@@ -62,11 +62,12 @@ class Unfinished(OverShop):
                 self.assertEqual(ran.returncode, 128 + number if number else 1)
                 left = ["catalogue.toml", "database.toml", "export.txt", "lint.txt", "unfinished.txt", "workload.sql"]
                 self.assertEqual(sorted(it.name for it in self.found.iterdir()), left)
-                told = f"what the last round advised is in {self.found}/unfinished.txt; a script that makes it: "
+                told = f"the server didn't judge, is in {self.found}/unfinished.txt; as a script:\ncophy-pg: "
                 self.assertIn(told, said)
                 command = shlex.split(said.partition(told)[2].splitlines()[0])
-                self.assertEqual((command[:2], "--include" in command), (["cophy-pg", "ddl"], bool(more)))
-                self.assertIn('ON "sales"."orders" ("total")', self.call(*command[1:]).stdout)
+                self.assertEqual((command[:2], "--include" in command), ([str(TOOL), "ddl"], bool(more)))
+                self.assertEqual(command[-2:], [">", f"{self.found}/indexes.sql"])
+                self.assertIn('ON "sales"."orders" ("total")', self.call(*command[1:-2]).stdout)
             held.unlink(missing_ok=True)
         self.call(*words[1:], COPHY_PROGRAM=str(STAND_IN))
         self.assertFalse((self.found / "unfinished.txt").exists())

@@ -34,11 +34,13 @@ class Writes(unittest.TestCase):
         ]
         found = writes_of(picks, TEXTS, CALLS, {"t": 4, "u": 1, "w": 2})
         rows = [tuple(it.values()) for it in found]
-        self.assertEqual(rows, [("INSERT", "t", 70, 2, 2, 4), ("UPDATE", "u", 7, 1, 2, 1), ("UPDATE", "w", 6, 1, 1, 2)])
-        line = "writes: INSERT into t has 2 indexes more to keep (4 to 6), UPDATE of u has 1 index more to keep"
+        self.assertEqual(rows, [("UPDATE", "t", 80, 1, 2, 4), ("UPDATE", "u", 7, 1, 2, 1), ("UPDATE", "w", 6, 1, 1, 2)])
+        line = "writes: UPDATE of t has 1 index more to keep, UPDATE of u has 1 index more to keep"
         self.assertEqual(told(found), [line])
         self.assertEqual(told(found[2:]), ["writes: UPDATE of w has 1 index more to keep (2 to 3)"])
         self.assertEqual(told(writes_of(picks[2:3], TEXTS, CALLS, {})), [])
+        often = writes_of(picks[:2], TEXTS, CALLS | {2: 90}, {"t": 4})
+        self.assertEqual(told(often), ["writes: INSERT into t has 2 indexes more to keep (4 to 6)"])
 
 
 if __name__ == "__main__":

@@ -3,6 +3,7 @@ from __future__ import annotations
 
 import argparse
 import shlex
+import sys
 from collections.abc import Iterator, Sequence
 from contextlib import contextmanager
 
@@ -60,9 +61,10 @@ def unless_broken_off(words: argparse.Namespace, kept: Folder) -> Iterator[None]
     except BaseException:
         if kept.has(folder.UNFINISHED):
             kept.clear(*[folder.RULES] * (not kept.has(folder.RULED)))
-            command = shlex.join(_script_of(words, kept, folder.UNFINISHED))
-            found = shown(kept.path(folder.UNFINISHED))
-            say(f"broken off: what the last round advised is in {found}; a script that makes it: {command}")
+            command = shlex.join([sys.argv[0], *_script_of(words, kept, folder.UNFINISHED)[1:]])
+            found, script = shown(kept.path(folder.UNFINISHED)), shlex.quote(kept.path(folder.DDL))
+            say(f"broken off: the last search's advice, which the server didn't judge, is in {found}; as a script:")
+            say(f"{command} > {script}")
         raise
     kept.clear(folder.UNFINISHED)
 

@@ -17,6 +17,8 @@ MOST_CHANGES = 5
 SAVES = f"   {'size':>9} {'our model':>9} {'server':>9}  % of the cost saved; statement, "
 MUCH = 20
 """A skipped statement is named that has this part of the whole."""
+UNHELPED, ABOUT, SLOW = 10, 0.9, 0.005
+"""And one that has this part of the time, costs so much as before, and takes so many seconds a call."""
 MOST_NUMBERS, SQL = 5, 45
 """So many numbers of statements, and so many characters of one, are shown."""
 WIDE = 5
@@ -75,6 +77,17 @@ def _much_skipped(document: dict[str, Any]) -> list[dict[str, Any]]:
     every, what = document["statements"], measured(document)
     whole = sum(it[what] for it in every)
     return [it for it in every if not it["numbers"] and it[what] * MUCH >= whole > 0]
+
+
+def unhelped(document: dict[str, Any]) -> list[dict[str, Any]]:
+    """The slow statements that have much of the measured time and cost the server about as much with the picks, the most first."""
+    if measured(document) != "seconds":
+        return []
+    whole = sum(it["seconds"] for it in document["statements"])
+    much = [it for it in document["statements"] if it["server_cost"] and it["seconds"] * UNHELPED >= whole > 0]
+    slow = [it for it in much if it["seconds"] >= SLOW * it["calls"]]
+    same = [it for it in slow if it["server_cost"]["after"] > ABOUT * it["server_cost"]["before"]]
+    return sorted(same, key=lambda it: -float(it["seconds"]))
 
 
 def _skipped(document: dict[str, Any]) -> list[str]:

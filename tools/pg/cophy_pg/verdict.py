@@ -11,7 +11,7 @@ from cophy_pg import folder
 from cophy_pg.closing import commands_of, doubts_of, is_all_advised, proof_of, recommended_of
 from cophy_pg.folder import Folder
 from cophy_pg.guesses import gains, is_judged
-from cophy_pg.overview import headline, measured, much_skipped, named, part_of
+from cophy_pg.overview import headline, measured, much_skipped, named, part_of, unhelped
 from cophy_pg.speed import duration
 from cophy_pg.writes import told
 
@@ -20,7 +20,7 @@ SQL, LONGEST = 34, 40
 """So many characters of a statement are shown, and such a name of an index has others in its column."""
 MOST_WARNINGS = 2
 """Where there are no more warnings, the summary has them, each up to what ends it."""
-MOST_UNADVISED = 8
+MOST_UNADVISED, MOST_UNHELPED, LONGEST_SQL = 8, 2, 60
 
 
 def verdict(document: dict[str, Any], kept: Folder) -> list[str]:
@@ -104,6 +104,9 @@ def _rest(document: dict[str, Any], kept: Folder) -> list[str]:
     if names := [*dict.fromkeys(name for it in made for name in it.get("superfluous", []))]:
         lines += [f"superfluous beside them: {', '.join(names)}"]
     lines += told(document.get("writes", []))
+    whole = sum(it["seconds"] or 0.0 for it in document["statements"])
+    for it in unhelped(document)[:MOST_UNHELPED]:
+        lines += [f"no index here helps, {share(it['seconds'], whole)} of the time: {short(it['sql'], LONGEST_SQL)}"]
     if much := much_skipped(document):
         what = "time" if measured(document) == "seconds" else "calls"
         lines += [f"no index is advised for skipped statements with {much} of the {what}"]

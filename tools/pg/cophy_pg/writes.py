@@ -23,19 +23,22 @@ def indexes_of(server: Server, tables: Sequence[int]) -> dict[int, int]:
 def writes_of(
     picks: Iterable[Reason], texts: Sequence[str], calls: Mapping[int, int], before: Mapping[str, int]
 ) -> list[dict[str, Any]]:
-    """Of each table of the picks the writes that cost more by our model, an INSERT's before others, the most called first.
-    The texts are those of the workload, `calls` go by their numbers, and `before` has how many indexes a table has."""
+    """Of each table of the picks the writes that cost more by our model, of the command that runs the most often, the most
+    called first. The texts are those of the workload, `calls` go by their numbers, and `before` has how many indexes a table
+    has."""
     tables: dict[str, list[Reason]] = {}
     for it in picks:
         tables.setdefault(it.pick.table, []).append(it)
     found = []
     for table, listed in tables.items():
         paying = [{at for at, change in it.changes.items() if change < 0} for it in listed]
-        commands = {at: texts[at - 1].split(None, 1)[0].upper() for at in set[int]().union(*paying)}
-        command = next((it for it in PLACES if it in commands.values()), None)
-        own = {at for at, it in commands.items() if it == command}
-        if command:
-            row = {"command": command, "table": table, "calls": sum(calls.get(at, 0) for at in own)}
+        writes: dict[str, set[int]] = {}
+        for at in sorted(set[int]().union(*paying)):
+            writes.setdefault(texts[at - 1].split(None, 1)[0].upper(), set()).add(at)
+        often = {it: sum(calls.get(at, 0) for at in own) for it, own in writes.items() if it in PLACES}
+        if often:
+            command = max(often, key=lambda it: (often[it], it))
+            own, row = writes[command], {"command": command, "table": table, "calls": often[command]}
             more = {"kept": sum(bool(it & own) for it in paying), "new": len(listed), "before": before.get(table)}
             found.append(row | more)
     return sorted(found, key=lambda it: (-it["calls"], it["table"]))
