@@ -113,7 +113,8 @@ class Statements(InFolder):
         script = self.ddl(CLUSTERED + INDEX, "--script")
         self.assertIn("1 of 1: t(c) clustered, by an index that is there", script)
         self.assertNotIn("DROP INDEX", script)
-        self.assertEqual(script.count('CLUSTER "public"."t" USING "t_c";'), 1)
+        self.assertEqual(script.count('\n--   CLUSTER "public"."t" USING "t_c";\n'), 1)
+        self.assertEqual(script.count('CLUSTER "public"."t" USING "t_c";'), 2)
 
     def test_where_the_rows_lie_so_already_nothing_is_made(self) -> None:
         catalogue = CLUSTERED + INDEX + "postgres_ordered = true\n" + ODD_INDEX

@@ -86,7 +86,10 @@ class Script(OverOwn):
     def test_it_has_little_to_read(self) -> None:
         columns = ("a", "b", "c", "a, b", "b, a", "c, a", "a, b, c", "b, c")
         head, _, rest = self.script(tuple(f"plain({it})" for it in columns), "--unadvised", "8").partition("\n\n")
-        self.assertLessEqual(len(head.split()), 120)
+        listed = re.findall(r"^--   (.*)$", head, re.MULTILINE)
+        self.assertEqual(len(listed), 7)
+        self.assertIn('CREATE INDEX CONCURRENTLY "plain_c_a_idx" ON "public"."plain" ("c", "a");', listed)
+        self.assertLessEqual(len(head.split()) - len(" ".join(listed).split()), 120)
         for it in (
             "7 steps",
             " MB of indexes",

@@ -8,7 +8,7 @@ from types import MappingProxyType
 
 from cophy_text import VERSION
 from cophy_text.answers import counted
-from cophy_text.shown import space
+from cophy_text.shown import printable, space
 from cophy_pg.ddl import Laid, Made, Named, written_path, written_text
 from cophy_pg.schema import Schema, Table
 from cophy_pg.script_sql import BEGIN, GO_ON, INDEX, LAID, PARTS, PASSED, REFUSE, STATE, STOP, TELL
@@ -16,6 +16,9 @@ from cophy_pg.server import OWN
 from cophy_pg.sizes import stored_pages
 from cophy_pg.speed import Speed, duration
 from cophy_pg.unlimited import likely, warning
+
+MOST_LISTED = 3
+"""So many statements of a pick stand at the top of the script."""
 
 
 def script_text(
@@ -113,7 +116,15 @@ def _told(schema: Schema, listed: list[Made], speed: Speed, unadvised: Sequence[
     ]
     lines += ["-- With -v undo=1 it drops what it made, and nothing else; -v without=N,N passes over these numbers."]
     lines += ["-- What isn't recommended is made with -v all=1 alone."] * bool(unadvised)
-    return [*lines, "-- Read on at 'The indexes': what stands before that is the same in each such script."]
+    lines += ["-- What follows makes these, and is else the same in each such script:"]
+    return [*lines, *(text for it in making for text in _listed(it))]
+
+
+def _listed(made: Made) -> list[str]:
+    """The statements of a pick as comments, the first few of many."""
+    texts = [f"--   {printable(it)}" for it in made.statements]
+    rest = len(texts) - MOST_LISTED
+    return texts if rest <= 0 else [*texts[:MOST_LISTED], f"--   and {rest} more of {printable(made.pick.shown())}"]
 
 
 def _refuse(listed: list[Made]) -> str:
