@@ -19,8 +19,8 @@ MUCH = 20
 """A skipped statement is named that has this part of the whole."""
 UNHELPED, ABOUT, SLOW = 10, 0.9, 0.005
 """And one that has this part of the time, costs so much as before, and takes so many seconds a call."""
-MOST_NUMBERS, SQL = 5, 45
-"""So many numbers of statements, and so many characters of one, are shown."""
+MOST_NUMBERS, SQL, LONGEST_SQL = 5, 45, 60
+"""So many numbers of statements, and so many characters of one, are shown; of one that is told alone so many."""
 WIDE = 5
 """Of so many columns some are mostly only read."""
 
@@ -79,15 +79,17 @@ def _much_skipped(document: dict[str, Any]) -> list[dict[str, Any]]:
     return [it for it in every if not it["numbers"] and it[what] * MUCH >= whole > 0]
 
 
-def unhelped(document: dict[str, Any]) -> list[dict[str, Any]]:
-    """The slow statements that have much of the measured time and cost the server about as much with the picks, the most first."""
-    if measured(document) != "seconds":
+def unhelped(document: dict[str, Any]) -> list[str]:
+    """A line for each slow statement that has much of the measured time and costs the server about as much with the picks,
+    the most first."""
+    whole = seconds_of(document["statements"])
+    if not whole:
         return []
-    whole = sum(it["seconds"] for it in document["statements"])
-    much = [it for it in document["statements"] if it["server_cost"] and it["seconds"] * UNHELPED >= whole > 0]
+    much = [it for it in document["statements"] if it["server_cost"] and it["seconds"] * UNHELPED >= whole]
     slow = [it for it in much if it["seconds"] >= SLOW * it["calls"]]
     same = [it for it in slow if it["server_cost"]["after"] > ABOUT * it["server_cost"]["before"]]
-    return sorted(same, key=lambda it: -float(it["seconds"]))
+    listed = ((it["seconds"], it["sql"]) for it in sorted(same, key=lambda it: -float(it["seconds"])))
+    return [f"no index here helps, {share(it, whole)} of the time: {short(sql, LONGEST_SQL)}" for it, sql in listed]
 
 
 def _skipped(document: dict[str, Any]) -> list[str]:
@@ -160,9 +162,10 @@ def headline(document: dict[str, Any]) -> str:
 
 def _head(document: dict[str, Any]) -> str:
     found, every = recommended_of(document)["stored_pages"], document["stored_pages"]
-    made, others = advised_of(document), [it for it in document["picks"] if it.get("caveat")]
+    made = advised_of(document)
+    others = len(document["picks"]) - len(made)
     size = f", {space(found)} of {space(document['asked_pages'])}" if made else ""
-    size += f", and {len(others)} not recommended, {space(every - found)}" if others else ""
+    size += f", and {others} not recommended, {space(every - found)}" if others else ""
     what = f"database {document['database']!a}, {part_of(document)}"
     return f"{headline(document)}{size}: {what}; advised in {_seconds(sum(document['seconds'].values()))}"
 

@@ -28,8 +28,8 @@ from cophy_pg.writes import writes_of
 
 @dataclass
 class Result:
-    """What each step found. `indexes` says how many a table of the picks has. `prices` are ours without picks, with those that stay, and with all of the advice; a price of
-    ours is in thousandths of a page read."""
+    """What each step found. `indexes` says how many a table of the picks has. `prices` are ours without picks, with those that
+    stay, and with all of the advice; a price of ours is in thousandths of a page read."""
 
     schema: Schema
     workload: Workload

@@ -8,7 +8,7 @@ from cophy_text import files
 from cophy_text.answers import counted
 from cophy_text.shown import percent, share, short, space
 from cophy_pg import folder
-from cophy_pg.closing import commands_of, doubts_of, is_all_advised, proof_of, recommended_of
+from cophy_pg.closing import advised_of, commands_of, doubts_of, is_all_advised, proof_of, recommended_of
 from cophy_pg.folder import Folder
 from cophy_pg.guesses import gains, is_judged
 from cophy_pg.overview import headline, measured, much_skipped, named, part_of, unhelped
@@ -20,7 +20,7 @@ SQL, LONGEST = 34, 40
 """So many characters of a statement are shown, and such a name of an index has others in its column."""
 MOST_WARNINGS = 2
 """Where there are no more warnings, the summary has them, each up to what ends it."""
-MOST_UNADVISED, MOST_UNHELPED, LONGEST_SQL = 8, 2, 60
+MOST_UNADVISED, MOST_UNHELPED = 8, 2
 
 
 def verdict(document: dict[str, Any], kept: Folder) -> list[str]:
@@ -100,13 +100,11 @@ def _unadvised(listed: list[tuple[int, dict[str, Any]]]) -> list[str]:
 def _rest(document: dict[str, Any], kept: Folder) -> list[str]:
     """What changes the advice, and how much there is to read beside it."""
     lines = []
-    made = [it for it in document["picks"] if not it.get("caveat")] or document["picks"]
+    made = advised_of(document) or document["picks"]
     if names := [*dict.fromkeys(name for it in made for name in it.get("superfluous", []))]:
         lines += [f"superfluous beside them: {', '.join(names)}"]
     lines += told(document.get("writes", []))
-    whole = sum(it["seconds"] or 0.0 for it in document["statements"])
-    for it in unhelped(document)[:MOST_UNHELPED]:
-        lines += [f"no index here helps, {share(it['seconds'], whole)} of the time: {short(it['sql'], LONGEST_SQL)}"]
+    lines += unhelped(document)[:MOST_UNHELPED]
     if much := much_skipped(document):
         what = "time" if measured(document) == "seconds" else "calls"
         lines += [f"no index is advised for skipped statements with {much} of the {what}"]
