@@ -132,8 +132,8 @@ def compiled(words: list[str], folder: str) -> None:
         sys.exit(f"rustc {' '.join(words)}:\n{done.stderr[-5000:]}")
 
 
-def plain(folder: str, root: str = ROOT) -> str:
-    """The path of the program, built in a folder."""
+def plain(folder: str, root: str = ROOT, name: str = "main") -> str:
+    """The path of a program, built in a folder."""
     if not shutil.which("rustc"):
         sys.exit("there is no rustc on the path")
     os.makedirs(os.path.join(folder, "lib"), exist_ok=True)
@@ -146,5 +146,5 @@ def plain(folder: str, root: str = ROOT) -> str:
         translate(root, crate, folder)
         compiled([*library, "--crate-name", crate, f"{crate}/lib.rs", *known], folder)
         known += ["--extern", crate]
-    compiled(["-C", "lto=fat", "-o", "plain", os.path.join(SOURCE, "main.rs"), *known], folder)
+    compiled(["-C", "lto=fat", "-o", "plain", os.path.join(SOURCE, f"{name}.rs"), *known], folder)
     return os.path.join(folder, "plain")
