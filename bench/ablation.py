@@ -25,63 +25,113 @@ WIDTHS = (44, 10, 8, 9, 6)
 
 @dataclass(frozen=True)
 class Change:
-    """What the search is to do without, and the places of a file that take it away: each text, which stands there once, and
-    what stands in its place."""
+    """What the search is to do without, and the text of a file, which stands there once, in whose place another takes it away."""
 
     name: str
     file: str
-    places: tuple[tuple[str, str], ...]
-
-
-def change(name: str, file: str, old: str, new: str) -> Change:
-    return Change(name, file, ((old, new),))
+    old: str
+    new: str
 
 
 FINDING, ALONG, PLANNER = (f"relaxations/src/{it}.rt" for it in ("finding", "along_tree", "planner"))
 CHANGES = (
-    change("exchanges after a rounding", "relaxations/src/rounding.rt", "MOST_TRIALS: usize = 300", "MOST_TRIALS: usize = 0"),
-    change(
+    Change(
+        "exchanges after a rounding",
+        "relaxations/src/rounding.rt",
+        "MOST_TRIALS: usize = 300",
+        "MOST_TRIALS: usize = 0",
+    ),
+    Change(
         "fixings in the search",
         FINDING,
         "            let count = self.fix(visit);\n",
         "            let mut own = *visit;\n            let _ = self.fix(&mut own);\n            visit.bound = own.bound;\n"
         "            visit.forced = own.forced;\n            let count = 0usize;\n",
     ),
-    change("branches with both sides closed", FINDING, "if best.inside >= missing && best.outside >= missing {", "if false {"),
-    change("more passes at a node", FINDING, "const MOST_PASSES: u32 = 4;", "const MOST_PASSES: u32 = 1;"),
-    change("dives", FINDING, "turns <= FIRST_DIVES || turns % LATER_DIVES == 0", "false"),
-    change("bounds of both sides before they are visited", FINDING, "let bounds = [inside, outside];", "let bounds = [visit.bound; 2];"),
-    change("cuts of a view", "interior_point/src/view.rt", "self.cut(cost);", ""),
-    change(
+    Change(
+        "branches with both sides closed",
+        FINDING,
+        "if best.inside >= missing && best.outside >= missing {",
+        "if false {",
+    ),
+    Change("more passes at a node", FINDING, "const MOST_PASSES: u32 = 4;", "const MOST_PASSES: u32 = 1;"),
+    Change("dives", FINDING, "turns <= FIRST_DIVES || turns % LATER_DIVES == 0", "false"),
+    Change(
+        "bounds of both sides before they are visited",
+        FINDING,
+        "let bounds = [inside, outside];",
+        "let bounds = [visit.bound; 2];",
+    ),
+    Change("cuts of a view", "interior_point/src/view.rt", "self.cut(cost);", ""),
+    Change(
         "the tree of the search in the plan",
         ALONG,
         "if !is_inner(node) || !self.path.is_choice(node.branch as usize) {\n            return None;",
         "if true {\n            return None;",
     ),
-    change("its fixings in the plan", ALONG, "has_known || !self.take_all_known", "true || !self.take_all_known"),
-    change("its fixings in trials", "relaxations/src/gains.rt", "if let Some(node) = wanted {", "if let Some(node) = wanted.filter(|_| false) {"),
-    change("sets of inner nodes", ALONG, "missing > FAR * own", "false"),
-    change("fixings under the second and third set", PLANNER, "sets.min(3)", "sets.min(1)"),
-    change("all fixings in the plan", PLANNER, "sets.min(3)", "0"),
-    change("trials", "relaxations/src/trial.rt", "        self.try_node(task, trial, MOST_LEVELS)\n", "        false\n"),
-    change(
+    Change("its fixings in the plan", ALONG, "has_known || !self.take_all_known", "true || !self.take_all_known"),
+    Change(
+        "its fixings in trials",
+        "relaxations/src/gains.rt",
+        "if let Some(node) = wanted {",
+        "if let Some(node) = wanted.filter(|_| false) {",
+    ),
+    Change("sets of inner nodes", ALONG, "missing > FAR * own", "false"),
+    Change("fixings under the second and third set", PLANNER, "sets.min(3)", "sets.min(1)"),
+    Change("all fixings in the plan", PLANNER, "sets.min(3)", "0"),
+    Change(
+        "trials", "relaxations/src/trial.rt", "        self.try_node(task, trial, MOST_LEVELS)\n", "        false\n"
+    ),
+    Change(
         "deepening",
         ALONG,
         "        self.deepen(task, finder, nodes, MOST_DEEPER);\n",
         "        let start = self.start();\n        self.leave_open(task, start);\n",
     ),
-    change("lifting", "relaxations/src/own_sets.rt", "        self.lifting.lift(task.matrix, &fix, rents);\n", ""),
-    change("all attempts but the last", "relaxations/src/attempts.rt", "ATTEMPTS.iter()", "ATTEMPTS.iter().skip(4)"),
-    change("attempts with many sets, and choices of these", "relaxations/src/attempts.rt", "ATTEMPTS.iter()", "ATTEMPTS.iter().step_by(4)"),
-    change("the attempts that keep 12 and 9 sets", "relaxations/src/attempts.rt", "for attempt in ATTEMPTS.iter() {", "for attempt in ATTEMPTS.iter().filter(|it| it.kept < 7) {"),
-    change("thinning", "relaxations/src/thinning.rt", "        self.thin(task, start);\n", ""),
-    change("splits of what is left open", "relaxations/src/proposals.rt", "        self.splitter.split(&task, &mut self.planner);\n", ""),
+    Change("lifting", "relaxations/src/own_sets.rt", "        self.lifting.lift(task.matrix, &fix, rents);\n", ""),
+    Change("all attempts but the last", "relaxations/src/attempts.rt", "ATTEMPTS.iter()", "ATTEMPTS.iter().skip(4)"),
+    Change(
+        "attempts with many sets, and choices of these",
+        "relaxations/src/attempts.rt",
+        "ATTEMPTS.iter()",
+        "ATTEMPTS.iter().step_by(4)",
+    ),
+    Change(
+        "the attempts that keep 12 and 9 sets",
+        "relaxations/src/attempts.rt",
+        "for attempt in ATTEMPTS.iter() {",
+        "for attempt in ATTEMPTS.iter().filter(|it| it.kept < 7) {",
+    ),
+    Change("thinning", "relaxations/src/thinning.rt", "        self.thin(task, start);\n", ""),
+    Change(
+        "splits of what is left open",
+        "relaxations/src/proposals.rt",
+        "        self.splitter.split(&task, &mut self.planner);\n",
+        "",
+    ),
 )
 OF_CLUSTERS = (
-    change("what a branch on a group promises, in the search", FINDING, "const WORTH: f64 = 24.0;", "const WORTH: f64 = 0.0;"),
-    change("members of groups first in the plan", ALONG, "if is_marked(&node.inside, a) && self.path.group(a) != 0", "if false && self.path.group(a) != 0"),
-    change("clashes first in splits", "relaxations/src/trial.rt", "if clash.is_some() { clash } else { choice }", "choice"),
-    change("excess of groups in the search", FINDING, "let excess = shares.excess(group, share);", "let excess = 0.0 * shares.excess(group, share);"),
+    Change(
+        "what a branch on a group promises, in the search",
+        FINDING,
+        "const WORTH: f64 = 24.0;",
+        "const WORTH: f64 = 0.0;",
+    ),
+    Change(
+        "members of groups first in the plan",
+        ALONG,
+        "if is_marked(&node.inside, a) && self.path.group(a) != 0",
+        "if false && self.path.group(a) != 0",
+    ),
+    Change(
+        "clashes first in splits", "relaxations/src/trial.rt", "if clash.is_some() { clash } else { choice }", "choice"
+    ),
+    Change(
+        "excess of groups in the search",
+        FINDING,
+        "let excess = shares.excess(group, share);",
+        "let excess = 0.0 * shares.excess(group, share);",
+    ),
 )
 
 
@@ -107,17 +157,17 @@ def built(folder: str, number: int, it: Change | None) -> str:
     """The program with a change, built in a folder of its own."""
     root = os.path.join(folder, f"root{number}")
     shutil.rmtree(root, ignore_errors=True)
-    shutil.copytree(os.path.join(ROOT, "crates"), os.path.join(root, "crates"), ignore=shutil.ignore_patterns("out", "proofs"))
+    shutil.copytree(
+        os.path.join(ROOT, "crates"), os.path.join(root, "crates"), ignore=shutil.ignore_patterns("out", "proofs")
+    )
     if it is not None:
         path = os.path.join(root, "crates", it.file)
         with open(path) as file:
             text = file.read()
-        for old, new in it.places:
-            if text.count(old) != 1:
-                sys.exit(f"{it.file} has {old!r} {text.count(old)} times")
-            text = text.replace(old, new)
+        if text.count(it.old) != 1:
+            sys.exit(f"{it.file} has {it.old!r} {text.count(it.old)} times")
         with open(path, "w") as file:
-            file.write(text)
+            file.write(text.replace(it.old, it.new))
     at = os.path.join(folder, f"plain{number}")
     os.makedirs(at, exist_ok=True)
     return plain(at, root, "replay")
