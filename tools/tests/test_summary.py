@@ -111,8 +111,8 @@ class Summary(unittest.TestCase):
         self.five()
         lines = self.verdict()
         self.assertLessEqual(len(" ".join(lines).split()), 150)
-        sentence = "Make these 5 indexes, 20.0 MB: the workload then costs 88.9 % less by the server's planner, 80.0 %"
-        sentence += " less by our model, the most that this budget can save (proved); judged by 2 of 2 statements with"
+        sentence = "Make these 5 indexes, 20.0 MB: the workload then costs 88.9 % less by the server's planner. By our"
+        sentence += " model it is 80.0 %, the most that this budget can save (proved). Judged by 2 of 2 statements with"
         self.assertTrue(" ".join(lines).startswith(sentence), lines)
         at = next(at for at, it in enumerate(lines) if it.startswith(" 1."))
         self.assertRegex(lines[at], r" 1\.    0\.2   88\.9 %  t0\(a\) +SELECT customer_name, count\(\*\).*")
@@ -136,9 +136,9 @@ class Summary(unittest.TestCase):
         lines = self.verdict()
         text = " ".join(lines)
         self.assertIn("Make these 3 indexes", text)
-        self.assertIn("70.0 % less by our model (at most 80.0 % within this budget, proved); judged by", text)
+        self.assertIn("By our model it is 70.0 %, of at most 80.0 % within this budget (proved). Judged by", text)
         self.document["gap"] = {"index": "t(c)", "why": "no plan of the server takes it"}
-        missing = "within this budget, proved; the rest is mostly t(c): no plan of the server takes it)"
+        missing = "within this budget (proved; the rest is mostly t(c): no plan of the server takes it)"
         self.assertNotIn("the rest is mostly", " ".join(self.verdict()))
         self.document["picks"] = [it for it in picks if not it["caveat"]]
         self.assertIn(missing, " ".join(self.verdict()))

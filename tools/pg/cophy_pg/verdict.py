@@ -57,16 +57,15 @@ def _sentence(document: dict[str, Any], count: int) -> str:
     what = f"Make {'this index' if count == 1 else f'these {count} indexes'}, {space(found['stored_pages'])}"
     saved = _saved(found["server_cost"], server["before"])
     by_model, most = _saved(found["cost"], ours["before"]), _saved(ours["bound"], ours["before"])
-    text = f"{what}: the workload then costs {saved} less by the server's planner"
-    text += f", {by_model} less by our model"
+    text = f"{what}: the workload then costs {saved} less by the server's planner. By our model it is {by_model}"
     if found["cost"] == ours["bound"]:
-        text += f", the most that this budget can save ({proof_of(document)})"
+        text += f", the most that this budget can save ({proof_of(document)})."
     else:
         # What isn't recommended is part of the rest, and is listed below.
         gap = document.get("gap") if is_all_advised(document) else None
         rest = f"; the rest is mostly {gap['index']}: {gap['why']}" if gap else ""
-        text += f" (at most {most} within this budget, {proof_of(document)}{rest})"
-    return f"{text}; {judged}."
+        text += f", of at most {most} within this budget ({proof_of(document)}{rest})."
+    return f"{text} {judged[0].upper()}{judged[1:]}."
 
 
 def _saved(after: float, before: float) -> str:
