@@ -8,7 +8,7 @@ from pathlib import Path
 from private_server import PrivateServer, program
 
 HERE = Path(__file__).resolve().parent
-ADVISOR_ROLE = HERE.parents[1] / "tools" / "pg" / "advisor_role.sql"
+ADVISOR_ROLE = HERE.parents[1] / "tools" / "pg" / "cophy_pg" / "advisor_role.sql"
 SETTINGS = (
     "shared_buffers=512MB",
     "effective_cache_size=1GB",

@@ -9,7 +9,7 @@ from pathlib import Path
 from typing import Any
 from unittest import skipIf
 
-from fixtures import NO_HYPOPG, ROOT, STAND_IN, InFolder, called, shop
+from fixtures import ADVISOR, NO_HYPOPG, ROOT, STAND_IN, InFolder, called, shop
 from private_server import PrivateServer
 from schema_check import faults
 
@@ -31,7 +31,7 @@ class Daily(InFolder):
         self.server = shop()
         self.server.psql("CREATE DATABASE days")
         self.addCleanup(self.server.psql, "DROP DATABASE days")
-        self.server.psql(MADE + (ROOT / "tools" / "pg" / "advisor_role.sql").read_text(), "days")
+        self.server.psql(MADE + ADVISOR.read_text(), "days")
         self.home = self.folder / "all"
 
     def call(self, *words: str, status: int = 0) -> str:

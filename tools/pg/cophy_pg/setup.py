@@ -24,7 +24,7 @@ from cophy_pg.server import OWN, UNKNOWN, Server, ServerFault, connected, quoted
 from cophy_pg.trust import view_of
 
 ROLE = "cophy_advisor"
-SCRIPT = Path(__file__).resolve().parents[1] / "advisor_role.sql"
+SCRIPT = Path(__file__).resolve().parent / "advisor_role.sql"
 ROUNDS = 4096
 LOCAL = ("localhost", "127.0.0.1", "::1")
 HYPOPG = (
