@@ -111,8 +111,9 @@ def _doubt(server: Server, who: str, where: str, warn: Callable[[str], None], is
     """Warns of who may put another view in the place of the extension's, and refuses a role that it would have power over."""
     if not is_trusted and has_power(server):
         raise NoInput(
-            f"{who} may put another view in the place of {EXTENSION}, in schema {where!a}, and its code would have this role's rights: tools/pg/advisor_role.sql makes a role with few; "
-            "or give the statements by --sql or --log, or the schema to a superuser"
+            f"{who} may put another view in the place of {EXTENSION}, in schema {where!a}, and its code would have "
+            "this role's rights: cophy-pg setup DATABASE makes a role with few; or give the statements by --sql or "
+            "--log, or the schema to a superuser"
         )
     moved = f"CREATE SCHEMA counted; GRANT USAGE ON SCHEMA counted TO PUBLIC; ALTER EXTENSION {EXTENSION} SET SCHEMA counted;"
     warn(f"{DISTRUST}{who}{WHO}replace {EXTENSION} in schema {where!a}; a superuser ends that by: {moved}")

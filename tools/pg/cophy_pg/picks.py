@@ -61,7 +61,7 @@ def _hypopg(server: Server) -> tuple[str, list[str]]:
     if found is None:
         raise ServerFault(
             "the extension hypopg isn't there: install it on the server (on Debian the package postgresql-15-hypopg), "
-            "then let a superuser run tools/pg/advisor_role.sql, which makes it"
+            "then cophy-pg setup DATABASE makes it"
         )
     return found
 

@@ -18,7 +18,7 @@ POWERS = (
     "pg_signal_backend",
 )
 """Roles whose rights reach beyond a read-only transaction, or beyond the database."""
-BETTER = "tools/pg/advisor_role.sql makes one whose rights suffice"
+BETTER = "cophy-pg setup DATABASE makes one whose rights suffice"
 COMPARISONS = frozenset(("=", "<>", "<", "<=", ">", ">="))
 
 MOST_NAMES = 20
@@ -157,7 +157,7 @@ class NotTrusted(ServerFault):
     def __init__(self, why: str) -> None:
         super().__init__(
             f"verify doesn't explain statements as {why}, since PostgreSQL runs functions of users while it plans: "
-            "tools/pg/advisor_role.sql makes a role for it; with --i-trust-the-statements it does"
+            "cophy-pg setup DATABASE makes a role for it; with --i-trust-the-statements it does"
         )
 
 
