@@ -123,7 +123,7 @@ class Daily(InFolder):
         service = units["cophy-daily@.service"]["Service"]
         self.assertEqual(service["SuccessExitStatus"], "3")
         command = shlex.split(service["ExecStart"].replace("${STATE_DIRECTORY}", str(self.home)))
-        self.assertEqual(command[0], "/opt/cophy/tools/pg/cophy-pg")
+        self.assertEqual(command[0], "/usr/bin/cophy-pg")
         self.server.psql("SELECT a FROM t WHERE b = 5;" * 9, "days")
         self.call(*command[1:], status=3)
         self.assertEqual([*self.home.iterdir()], self.folders())

@@ -141,8 +141,8 @@ class Nightly(InFolder):
         service = units["cophy-retune@.service"]["Service"]
         self.assertEqual(service["SuccessExitStatus"], "3")
         command = shlex.split(service["ExecStart"])
-        self.assertEqual(command[:2], ["/opt/cophy/examples/systemd/cophy-retune", "${STATE_DIRECTORY}"])
-        self.assertEqual(command[2], "2GB")
+        script = "/usr/share/cophy-pg/examples/systemd/cophy-retune"
+        self.assertEqual(command[:3], [script, "${STATE_DIRECTORY}", "2GB"])
         ran = subprocess.run(
             [str(ROOT / "tools" / "pg" / "cophy-pg"), "export", "a", "b", *command[3:], "--help"],
             stdout=subprocess.DEVNULL,
