@@ -15,13 +15,13 @@ from collections.abc import Iterator
 from pathlib import Path
 
 from private_server import PrivateServer
-from fixtures import COPHY, NO_HYPOPG, ROOT, STAND_IN, shop
+from fixtures import COPHY, NO_HYPOPG, ROOT, STAND_IN, TOOL, shop
 from patience import LONG
 
 MISSING = NO_HYPOPG or ("" if importlib.util.find_spec("jinja2") else "python3-jinja2 isn't installed")
 BLOCK = re.compile(r"^```([^\n]*)\n(.*?)^```$", re.MULTILINE | re.DOTALL)
 COMMAND = re.compile(
-    r"(?:\./cophy|cophy-[a-z]+|(?:tools|bench)/|apt-get|service|su|useradd|psql|export|rt|pip|python3|make)\b"
+    r"(?:\./cophy|cophy-[a-z]+|(?:tools|bench)/|apt|service|su|useradd|psql|export|rt|pip|python3|make)\b"
 )
 STATEMENTS = """SELECT id, name FROM customer WHERE city = 'City 3';
 SELECT id FROM sales.orders WHERE total = 17.75 ORDER BY id;
@@ -167,9 +167,13 @@ class Walk(unittest.TestCase):
         self.here = Path(folder.name)
         (self.here / "tools").symlink_to(ROOT / "tools")
         (self.here / "cophy").symlink_to(STAND_IN)
+        # As a package lays it.
+        (self.here / "bin").mkdir()
+        (self.here / "bin" / TOOL.name).symlink_to(TOOL)
 
     def bash(self, line: str, **more: str) -> subprocess.CompletedProcess[str]:
-        given = {"PGUSER": "cophy_advisor", "HOME": str(self.here), "COPHY_PROGRAM": str(STAND_IN)}
+        path = f"{self.here / 'bin'}:{os.environ['PATH']}"
+        given = {"PGUSER": "cophy_advisor", "HOME": str(self.here), "COPHY_PROGRAM": str(STAND_IN), "PATH": path}
         environment = self.server.environment("shop", **given | more)
         return subprocess.run(
             ["bash", "-c", line],

@@ -165,7 +165,7 @@ class FirstPage(unittest.TestCase):
         before, result, _ = page.rsplit("```\n", 2)
         self.assertLessEqual(len(before.split()), 150)
         self.assertLessEqual(len(result.split()), 150)
-        places = [page.index(it) for it in ("apt-get", "cophy-pg setup", "advise --budget 26MB", "undo=1")]
+        places = [page.index(it) for it in ("apt install", "cophy-pg setup", "advise --budget 26MB", "undo=1")]
         self.assertEqual(places, sorted(places))
 
     def test_the_readme_leads_an_administrator_there_at_once(self) -> None:
