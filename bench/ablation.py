@@ -9,7 +9,9 @@ import subprocess
 import sys
 from concurrent.futures import ThreadPoolExecutor
 from dataclasses import dataclass
+from signal import SIGKILL
 from tempfile import TemporaryDirectory
+from threading import Timer
 
 sys.path.insert(0, os.path.dirname(os.path.realpath(__file__)))
 from builds import run_unproved  # noqa: E402
@@ -173,12 +175,17 @@ def built(folder: str, number: int, it: Change | None) -> str:
     return plain(at, root, "replay")
 
 
-def searched(program: str, files: list[str], nodes: int) -> list[dict[str, int]]:
+def searched(program: str, files: list[str], nodes: int, most: float) -> list[dict[str, int]]:
+    """The searches of all programmes, or those that end within so many seconds."""
     words = [word for file in files for word in (file, ",".join(map(str, SHARES)))]
-    done = subprocess.run([program, str(nodes), *words], capture_output=True, text=True)
-    if done.returncode:
-        sys.exit(f"{program}: {done.stderr[-1000:]}")
-    return [numbers(line) for line in done.stdout.splitlines()]
+    with subprocess.Popen([program, str(nodes), *words], stdout=subprocess.PIPE, text=True) as running:
+        timer = Timer(most, running.kill)
+        timer.start()
+        text, _ = running.communicate()
+        timer.cancel()
+    if running.returncode not in (0, -SIGKILL):
+        sys.exit(f"{program} ends with status {running.returncode}")
+    return [numbers(line) for line in text.splitlines() if "microseconds" in line]
 
 
 def main() -> None:
@@ -189,6 +196,9 @@ def main() -> None:
     parser.add_argument("--nodes", type=int, default=20000, help="nodes of a search (default: 20000)")
     parser.add_argument("--folder", help="where programmes are kept for the next time (default: a temporary folder)")
     parser.add_argument("--jobs", type=int, default=1, help="how many are searched at once (default: 1)")
+    parser.add_argument(
+        "--most", type=float, default=600.0, help="seconds after which a change is broken off (default: 600)"
+    )
     parser.add_argument("--only", help="only changes with this in their names, beside none")
     options = parser.parse_args()
     seeds = [int(it) for it in (options.seeds or ("1 3" if options.may_cluster else "2 4")).split()]
@@ -204,7 +214,7 @@ def main() -> None:
         def row_of(number: int) -> tuple[str, list[dict[str, int]]]:
             it = listed[number - 1] if number else None
             program = built(folder, number, it)
-            return (it.name if it else "nothing"), searched(program, files, options.nodes)
+            return (it.name if it else "nothing"), searched(program, files, options.nodes, options.most)
 
         whole = 0.0
         with ThreadPoolExecutor(options.jobs) as pool:
