@@ -211,8 +211,8 @@ class Tools(OverPackages):
     def test_it_runs_and_writes_nothing_beside_itself(self) -> None:
         before = {*self.there.rglob("*")}
         self.assertEqual(self.call("--version").stdout, f"cophy-pg {VERSION}\n")
-        for words in ([], ["setup"], ["advise"], ["daily"]):
-            ran = self.call(*words, "--help")
+        for command in ("", "setup", "advise", "daily"):
+            ran = self.call(*command.split(), "--help")
             self.assertEqual((ran.returncode, ran.stderr), (0, ""))
             self.assertIn("usage: cophy-pg", ran.stdout)
         self.assertEqual({*self.there.rglob("*")}, before)
@@ -229,8 +229,8 @@ class Tools(OverPackages):
     @unittest.skipIf(LACKS, f"python3-{LACKS} isn't installed")
     def test_units_call_what_is_there(self) -> None:
         named = set[str]()
-        for it in (self.there / "usr/lib/systemd/system").glob("*.service"):
-            named |= {*re.findall(r"^(?:ExecStart|Environment=COPHY_PROGRAM)=(\S+)", it.read_text(), re.MULTILINE)}
+        for unit in (self.there / "usr/lib/systemd/system").glob("*.service"):
+            named |= {*re.findall(r"^(?:ExecStart|Environment=COPHY_PROGRAM)=(\S+)", unit.read_text(), re.MULTILINE)}
         self.assertEqual(named, {"/usr/bin/cophy", "/usr/bin/cophy-pg", f"/usr/share/cophy-pg/{RETUNE}"})
         for it in named:
             self.assertTrue(os.access(f"{self.there}{it}", os.X_OK), it)
