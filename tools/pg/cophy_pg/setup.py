@@ -9,6 +9,7 @@ import hmac
 import os
 import secrets
 import shlex
+import shutil
 import subprocess
 import sys
 from contextlib import suppress
@@ -142,8 +143,15 @@ def _tell(server: Server, database: str, host: str, port: str) -> int:
     )
     names = {"PGHOST": host, "PGPORT": port if port != "5432" else "", "PGDATABASE": database, "PGUSER": ROLE}
     print("export " + " ".join(f"{name}={shlex.quote(it)}" for name, it in names.items() if it))
-    print(f"{shlex.quote(sys.argv[0])} advise --budget {fifth_of(int(server.value(_SIZE)))}")
+    print(f"{shlex.quote(_called())} advise --budget {fifth_of(int(server.value(_SIZE)))}")
     return 0
+
+
+def _called() -> str:
+    """How this is called: by its name alone where the path has it."""
+    name = os.path.basename(sys.argv[0])
+    found = shutil.which(name)
+    return name if found is not None and os.path.samefile(found, sys.argv[0]) else sys.argv[0]
 
 
 def _home(server: Server) -> str | None:
