@@ -19,7 +19,7 @@ if not NO_PARSER:
     from cophy_pg.pricing import UNPRICED, Chosen, Pricing
     from cophy_pg.program import Program
     from cophy_pg.progress import Progress
-    from cophy_pg.searches import EXCHANGING, LEAST_SECONDS, MOST_SEARCHES, Rules, Searches
+    from cophy_pg.searches import EXCHANGING, FIRST_SECONDS, MOST_SEARCHES, Rules, Searches
     from cophy_pg.sizes import stored_size
     from cophy_text.rules import read_rule
 
@@ -215,7 +215,7 @@ class OverTheStandIn(InFolder):
             advice, _ = searches.filling(schema, Rules())
             found[seconds] = (program.asked.count("whatif"), advice.cost, searches)
         every, least, _ = found[0, 0]
-        self.assertGreater(8 * every, LEAST_SECONDS + 16)
+        self.assertGreater(8 * every, FIRST_SECONDS + 16)
         self.assertIn(f"{EXCHANGING}, 4 sets priced", told)
         for seconds, (count, cost, searches) in found.items():
             with self.subTest(seconds=seconds):
@@ -230,7 +230,7 @@ class OverTheStandIn(InFolder):
         schema = read_schema(self.kept.read(folder.CATALOGUE))
         every = self.program.advise(10**9).picks
         some = [it for it in every if it.table != "large"]
-        for seconds in (0, int(LEAST_SECONDS) + 1):
+        for seconds in (0, int(FIRST_SECONDS) + 1):
             program = Slow(self.program, {"whatif": seconds})
             searches = Searches(program, self.kept, 10**6, (), Progress(), clock=lambda: program.now)
             told = [searches.unused(schema, Rules(), it, []) for it in (every, some)]

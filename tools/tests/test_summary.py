@@ -110,17 +110,21 @@ class Summary(unittest.TestCase):
     def test_the_verdict_on_five_picks_is_short_and_says_what_to_do(self) -> None:
         self.five()
         lines = self.verdict()
-        self.assertLessEqual(len(" ".join(lines).split()), 150)
+        self.assertLessEqual(len(" ".join(lines).split()), 180)
         sentence = "Make these 5 indexes, 20.0 MB: the workload then costs 88.9 % less by the server's planner. By our"
         sentence += " model it is 80.0 %, the most that this budget can save (proved). Judged by 2 of 2 statements with"
         self.assertTrue(" ".join(lines).startswith(sentence), lines)
         at = next(at for at, it in enumerate(lines) if it.startswith(" 1."))
         self.assertRegex(lines[at], r" 1\.    0\.2   88\.9 %  t0\(a\) +SELECT customer_name, count\(\*\).*")
         self.assertEqual(
-            lines[-3:-1],
+            lines[-5:-3],
             ["all else: /home/you/advice/details.txt", "make them (about 37 seconds, reads and writes go on):"],
         )
-        self.assertTrue(lines[-1].endswith("-U app -f /home/you/advice/indexes.sql"))
+        self.assertTrue(lines[-3].endswith("-U app -f /home/you/advice/indexes.sql"))
+        self.assertEqual(lines[-2], "or without the password of app, as a role of your own:")
+        self.assertRegex(
+            lines[-1], r"^sudo -u postgres createuser -p 5433 --role=app \w+ && psql -X -p 5433 -d .* -f /home/"
+        )
         self.assertEqual([it for it in lines if "MB" in it], [lines[0], lines[at - 1]])
 
     def test_what_isnt_recommended_stands_below_with_its_reason(self) -> None:
@@ -167,7 +171,8 @@ class Summary(unittest.TestCase):
         self.assertEqual([it[:3] for it in lines[at + 1 : at + 9]], [f" {number}." for number in range(1, 9)])
         self.assertTrue(lines[0].startswith("No index is plainly worth making for 'shop & <b>', judged by"), lines)
         self.assertEqual(lines[at + 9], "    and 2 more: details.txt")
-        self.assertTrue(lines[-1].endswith("-U app -v all=1 -f /home/you/advice/indexes.sql"), lines[-1])
+        self.assertTrue(lines[-3].endswith("-U app -v all=1 -f /home/you/advice/indexes.sql"), lines[-3])
+        self.assertIn(" -v all=1 -f ", lines[-1])
         self.document["picks"] = []
         self.assertTrue(self.verdict()[0].startswith("No index is worth making for"))
 
@@ -220,8 +225,10 @@ class Summary(unittest.TestCase):
         self.assertTrue(next_of(self.document, "x")[0].startswith("to make them in about 30 seconds, let "))
 
     def test_the_owner_who_is_a_user_here_needs_no_password(self) -> None:
-        from cophy_pg.closing import command_of
+        from cophy_pg.closing import command_of, member_of
 
+        for owner, host in (("root", "localhost"), ("app", "db")):
+            self.assertIsNone(member_of(self.document | {"owners": [owner], "host": host, "port": 5432}, "/a"))
         at = {"owners": ["root"], "host": "localhost", "port": 5432}
         self.assertEqual(
             command_of(self.document | at, "/a/b c", "root"), "sudo -u root psql -X -p 5432 -d 'shop & <b>' < '/a/b c'"

@@ -1,6 +1,7 @@
 """The end of what `advise` prints: what the workload costs, what the bound says, and who makes the indexes how."""
 from __future__ import annotations
 
+import os
 import pwd
 import shlex
 from contextlib import suppress
@@ -132,6 +133,20 @@ def command_of(document: dict[str, Any], script: str, owner: str, more: str = ""
     if is_user:
         return f"{shlex.join(['sudo', '-u', who, 'psql', '-X', *at])}{more} < {shlex.quote(script)}"
     return f"{shlex.join(['psql', '-X', *at, '-U', who])}{more} -f {shlex.quote(script)}"
+
+
+def member_of(document: dict[str, Any], script: str) -> str | None:
+    """What who doesn't know the password of the one owner may run: a role of his own on this machine, that is a member of it,
+    makes them. Nothing where no password is asked for."""
+    owners, host = document["owners"], str(document.get("host") or "")
+    is_here = host in HERE or host.startswith("/")
+    if len(owners) != 1 or not is_here or _is_user(owner := _plain(owners[0])):
+        return None
+    ours, port = pwd.getpwuid(os.geteuid()).pw_name, ["-p", str(document.get("port") or 5432)]
+    made = ["sudo", "-u", "postgres", "createuser", *port, f"--role={owner}", ours]
+    words = ["psql", "-X", *port, "-d", _plain(str(document["database"]))]
+    more = " -v all=1" if not advised_of(document) else ""
+    return f"{shlex.join(made)} && {shlex.join(words)}{more} -f {shlex.quote(script)}"
 
 
 def _is_user(name: str) -> bool:

@@ -31,8 +31,8 @@ MOST_STARTS = 4
 """Of so many sets of picks is it tried what exchanges make of them."""
 MOST_SEARCHES = MOST_TRIES + len(FURTHER) + 1
 """So often is searched in a round: for what fills the budget, and for what exchanges made of that."""
-EXCHANGING, LEAST_SECONDS = "exchanging picks for others", 30.0
-"""Picks are exchanged for so long, or for as long as was searched before."""
+EXCHANGING, FIRST_SECONDS, LATER_SECONDS = "exchanging picks for others", 30.0, 8.0
+"""Picks are exchanged for so long in the first round, or for as long as was searched before, and so long in each later one."""
 CUT = "picks were exchanged for others for a limited time only, so others may cost less in the same space"
 POINTS, FIRST = 3, 3
 """How many points a curve has where it bends, and where its first picks come in, beside those that were searched for anyhow."""
@@ -109,6 +109,8 @@ class Searches:
     count: int = 0
     most: int = 0
     clock: Callable[[], float] = time.monotonic
+    is_later: bool = False
+    """Whether the first round was searched."""
     is_cut: bool = False
     """Whether there wasn't time for all exchanges."""
 
@@ -129,7 +131,8 @@ class Searches:
         text = self.ruled[found.budget, lines] if lines else self.texts[found.budget]
         self.kept.write({folder.UNFINISHED: text})
         self.progress(EXCHANGING)
-        exchange = self.exchange(schema, rules, max(LEAST_SECONDS, self.clock() - begun))
+        seconds = LATER_SECONDS if self.is_later else max(FIRST_SECONDS, self.clock() - begun)
+        exchange, self.is_later = self.exchange(schema, rules, seconds), True
         better = self._exchanged(exchange, found, tried)
         self.is_cut |= exchange.is_cut
         if better is None or self._prices().cost(better) >= found.cost:
@@ -156,7 +159,7 @@ class Searches:
     def unused(self, schema: Schema, rules: Rules, picks: list[Candidate], left_out: list[Candidate]) -> str | None:
         """What is said of space that is left, where it is much and nothing that fits and wasn't left out saves anything, as
         far as there was time to tell."""
-        exchange, chosen = self.exchange(schema, rules, LEAST_SECONDS), frozenset(it.number for it in picks)
+        exchange, chosen = self.exchange(schema, rules, LATER_SECONDS), frozenset(it.number for it in picks)
         exchange.fixed |= chosen | {it.number for it in left_out}
         left = self.asked - exchange.size(chosen)
         if left <= self.asked * (1 - WELL_FILLED) or not exchange.improved(chosen, ()) <= chosen or exchange.is_cut:

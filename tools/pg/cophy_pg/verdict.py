@@ -8,7 +8,7 @@ from cophy_text import files
 from cophy_text.answers import counted
 from cophy_text.shown import percent, share, short, space
 from cophy_pg import folder
-from cophy_pg.closing import advised_of, commands_of, doubts_of, is_all_advised, proof_of, recommended_of
+from cophy_pg.closing import advised_of, commands_of, doubts_of, is_all_advised, member_of, proof_of, recommended_of
 from cophy_pg.folder import Folder
 from cophy_pg.guesses import gains, is_judged
 from cophy_pg.overview import headline, measured, much_skipped, named, part_of, unhelped
@@ -37,8 +37,12 @@ def verdict(document: dict[str, Any], kept: Folder) -> list[str]:
     if picks:
         known = [it["build_seconds"] for _, it in advised or picks if it.get("build_seconds") is not None]
         time = f" (about {duration(sum(known))}, reads and writes go on)" if known and not _locks(document) else ""
-        commands = commands_of(document, kept.path(folder.DDL))
+        script = kept.path(folder.DDL)
+        commands, member = commands_of(document, script), member_of(document, script)
         lines += [f"make them{time}{', a line for each owner' * (len(commands) > 1)}:", *commands]
+        lines += (
+            [f"or without the password of {document['owners'][0]}, as a role of your own:", member] if member else []
+        )
     return lines
 
 
