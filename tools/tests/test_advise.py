@@ -139,7 +139,7 @@ class Advise(OverSql):
             short, r"\AMake these \d+ indexes, [0-9.]+ MB: the workload then costs [\d.]+ % less by the server's"
         )
         self.assertRegex(short, r"\n 1\. +[\d.]+  +[\d.]+ %  sales_orders\(total\) +SELECT id FROM sales")
-        self.assertLessEqual(len(short.split()), 150)
+        self.assertLessEqual(len(short.split()), 180)
         before = (self.found / "details.txt").read_text()
         text = self.call(*words, "-v").stdout
         self.assertEqual(text, (self.found / "details.txt").read_text())
@@ -161,7 +161,21 @@ class Advise(OverSql):
         place = f"-h {self.server.folder} -p 5432 -d shop -U cophy -f {self.found}/indexes.sql"
         command = f"let their owner run: psql -X {place}"
         self.assertEqual(text.splitlines()[-1], f"to make them in about 1 second, {command}")
-        self.assertEqual(short.splitlines()[-1], f"psql -X {place}")
+        self.assertEqual(short.splitlines()[-3], f"psql -X {place}")
+        member = r"sudo -u postgres createuser -p 5432 --role=cophy \w+ && psql -X -p 5432 -d shop -f"
+        self.assertRegex(short.splitlines()[-1], f"^{member} {self.found}/indexes.sql$")
+        self._reads_alone()
+
+    def _reads_alone(self) -> None:
+        """Exactly those picks ask for VACUUM that plans read without their tables."""
+        from cophy_pg.picks import scans_of
+
+        plans = json.loads((self.found / "plans.json").read_text())
+        scans = {it for one in plans["statements"] for it in scans_of(one["after"] or {})}
+        for it in json.loads((self.found / "advice.json").read_text())["picks"]:
+            shown = f"{it['table']}({', '.join(it['columns'])})"
+            kinds = {kind for name, kind in scans if plans["shown"].get(name) == shown}
+            self.assertEqual(any("VACUUM" in note for note in it["notes"]), kinds == {"Index Only Scan"}, it)
 
     def test_statuses(self) -> None:
         self.sql.write_text("SELECT id FROM customer WHERE id = 3;\n")

@@ -17,6 +17,16 @@ echo "size $n"; echo "statement 1 weight 1 cost 9000"; echo "total $((9000 - 100
 """
 
 
+class Plans(unittest.TestCase):
+    def test_scans_have_the_names_of_their_indexes_and_their_kinds(self) -> None:
+        from cophy_pg.picks import index_names, scans_of
+
+        inner = {"Node Type": "Index Only Scan", "Index Name": "a", "Plans": [{"Node Type": "Seq Scan"}]}
+        plan = {"Node Type": "Nested Loop", "Plans": [{"Node Type": "Index Scan", "Index Name": "b"}, inner]}
+        self.assertEqual(scans_of(plan), {("a", "Index Only Scan"), ("b", "Index Scan")})
+        self.assertEqual(index_names(plan), {"a", "b"})
+
+
 @unittest.skipIf(NO_HYPOPG, NO_HYPOPG)
 class Verify(OverShop):
     # Without the program the statements stay in the order in which they are given.

@@ -36,8 +36,13 @@ _CALLED = {"hypopg_create_index": "text", "hypopg_reset": ""}
 
 def index_names(plan: Any) -> set[str]:
     """The names of all indexes that a plan takes."""
-    found = {str(plan["Index Name"])} if "Index Name" in plan else set()
-    return found.union(*(index_names(it) for it in plan.get("Plans", ())))
+    return {name for name, _ in scans_of(plan)}
+
+
+def scans_of(plan: Any) -> set[tuple[str, str]]:
+    """The names of all indexes that a plan takes, each with the kinds of its scans."""
+    found = {(str(plan["Index Name"]), str(plan.get("Node Type")))} if "Index Name" in plan else set()
+    return found.union(*(scans_of(it) for it in plan.get("Plans", ())))
 
 
 def home_of(server: Server) -> str:

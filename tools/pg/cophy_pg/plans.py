@@ -9,11 +9,15 @@ from cophy_text.answers import Advice, Candidate
 from cophy_pg.explain import Explainer
 from cophy_pg.outcomes import Verdict
 from cophy_pg.parameters import Columns
-from cophy_pg.picks import home_of, index_names, make
+from cophy_pg.picks import home_of, index_names, make, scans_of
 from cophy_pg.progress import Progress
 from cophy_pg.schema import Schema
 from cophy_pg.server import Server, ServerFault, reading
 from cophy_pg.workload import Workload
+
+
+ALONE = "Index Only Scan"
+"""A node of a plan that reads no table, as long as VACUUM has marked its pages."""
 
 
 class Plan(NamedTuple):
@@ -26,12 +30,14 @@ class Plan(NamedTuple):
 @dataclass
 class Plans:
     """Plans by the numbers of their verdicts, and for each pick, by its number, what the statements that take it cost
-    without it. `shown` has the picks by the names of their indexes in plans."""
+    without it. `shown` has the picks by the names of their indexes in plans, and `alone` those that plans read without their
+    tables."""
 
     before: dict[int, Any] = field(default_factory=dict)
     after: dict[int, Any] = field(default_factory=dict)
     without: dict[int, dict[int, float]] = field(default_factory=dict)
     shown: dict[str, str] = field(default_factory=dict)
+    alone: set[int] = field(default_factory=set)
 
     def saved(self, pick: int, verdict: Verdict) -> float:
         """What one call saves by a pick, where all others are there."""
@@ -58,6 +64,8 @@ def plans_of(server: Server, schema: Schema, advice: Advice, found: list[Verdict
         _, made = make(server, schema, advice)
         plans.shown = {name: _shown(advice, number) for name, number in made.items()}
         plans.after = _each(explainer, known, progress)
+        scans = {it for plan in plans.after.values() for it in scans_of(plan) if it[0] in made}
+        plans.alone = {made[it] for it, _ in scans} - {made[it] for it, kind in scans if kind != ALONE}
         for pick in advice.picks:
             names = {name for name, number in made.items() if number == pick.number}
             users = [it for it in known if names & index_names(plans.after.get(it.number, {}))]

@@ -25,6 +25,11 @@ from cophy_pg.workload import Record, Workload
 from cophy_pg.worth import worth_of
 from cophy_pg.writes import writes_of
 
+VACUUM = (
+    "plans read it without its table, which takes pages that VACUUM has marked: where many rows change, VACUUM often, "
+    "or plans leave it"
+)
+
 
 @dataclass
 class Result:
@@ -151,10 +156,10 @@ class Result:
         return Speed().seconds(self.schema.tables[made.where], bool(made.indexes), made.laid is not None)
 
     def _notes(self, made: Made) -> list[str]:
-        """What a clustered pick asks of others, and how the server was asked about it."""
-        if made.laid is None:
-            return []
-        return [*Speed().told(self.schema.tables[made.where], len(made.indexes)), ORDINARY]
+        """What a pick asks of others, and how the server was asked about a clustered one."""
+        if made.laid is not None:
+            return [*Speed().told(self.schema.tables[made.where], len(made.indexes)), ORDINARY]
+        return [VACUUM] * (made.pick.number in self.plans.alone)
 
     def _saves(self, reason: Reason) -> dict[str, float | None]:
         """What the workload would cost more without a pick, in percent of what it costs without any, and what of the measured
