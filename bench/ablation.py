@@ -4,6 +4,7 @@ crates are built as plain Rust (`plain.py`), each time with one place of their c
 `families.py`, whose constants were chosen on odd seeds, with --may-cluster on even ones."""
 import argparse
 import os
+import re
 import shutil
 import subprocess
 import sys
@@ -199,11 +200,11 @@ def main() -> None:
     parser.add_argument(
         "--most", type=float, default=600.0, help="seconds after which a change is broken off (default: 600)"
     )
-    parser.add_argument("--only", help="only changes with this in their names, beside none")
+    parser.add_argument("--only", default="", help="only changes whose names match this pattern, beside none")
     options = parser.parse_args()
     seeds = [int(it) for it in (options.seeds or ("1 3" if options.may_cluster else "2 4")).split()]
     listed = [*CHANGES, *(OF_CLUSTERS if options.may_cluster else ())]
-    listed = [it for it in listed if options.only is None or options.only in it.name]
+    listed = [it for it in listed if re.search(options.only, it.name)]
     with TemporaryDirectory() as temporary:
         folder = os.path.abspath(options.folder or temporary)
         os.makedirs(folder, exist_ok=True)
