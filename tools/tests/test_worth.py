@@ -28,7 +28,7 @@ class Priced:
 class Worths(unittest.TestCase):
     def test_what_is_saved_of_the_measured_time_is_that_of_the_cost(self) -> None:
         found = [
-            Verdict(1, Input("x", 10, 8.0), {1: 1.0}, before=100.0, after=60.0),
+            Verdict(1, Input("x", 10, 8.0), {1: 1.0}, before=100.0, after=60.0, taken=[PICKS[0].number]),
             Verdict(2, Input("y", 1, 2.0), {2: 1.0}, before=1000.0, after=1000.0),
         ]
         none, kept = Prices({1: Price(10, 90), 2: Price(1, 100)}, 1000), Prices(
@@ -47,6 +47,11 @@ class Worths(unittest.TestCase):
         self.assertEqual(ours.planned, 0.0)
         self.assertAlmostEqual(ours.measured or 0.0, 100 * 8 / 10 * 10 / 900)
         self.assertNotIn("measured", unknown.shown())
+        # Where its plan passes the pick over, nothing is saved; where it isn't known, what we say is.
+        found[0].taken = []
+        self.assertEqual(worth_of(reason, (none, kept), found, {}, [8.0, 2.0]).measured, 0.0)
+        found[0].after = None
+        self.assertEqual(worth_of(reason, (none, kept), found, {}, [8.0, 2.0]).measured, ours.measured)
 
     def test_a_pick_stays_where_one_of_the_three_reaches_the_limit(self) -> None:
         for worth, left in (

@@ -39,7 +39,8 @@ def worth_of(
 ) -> Worth:
     """What a pick saves where all others are there. `prices` are ours without picks and with all, `without` is what a call of
     a statement costs the server without this one, by the number of its verdict, and `every` are the measured times of all
-    statements. Of a statement's time is saved what is saved of its cost, by the server or by us, whichever is more."""
+    statements. Of a statement's time is saved what is saved of its cost, by the server or by us, whichever is more; by us alone
+    where the server doesn't say that its plan passes the pick over."""
     none, kept = prices
     ours = 100 * (reason.total_without - kept.total) / none.total if none.total else 0.0
     before = sum(it.calls * it.before for it in found if it.before is not None and it.after is not None)
@@ -48,10 +49,11 @@ def worth_of(
         saved = without[it.number] - (it.after or 0.0) if it.number in without else 0.0
         server += it.calls * saved
         cost = sum(none.statements[at].weight * none.statements[at].cost for at in it.written)
-        parts = [saved / it.before if it.before else 0.0]
-        parts += [sum(reason.changes.get(at, 0) for at in it.written) / cost if cost else 0.0]
-        seconds += (it.input.seconds or 0.0) * min(1.0, max(0.0, *parts))
-        planned += (it.input.seconds or 0.0) * parts[0]
+        by_server = saved / it.before if it.before else 0.0
+        is_open = it.after is None or reason.pick.is_clustered or reason.pick.number in it.taken
+        by_us = sum(reason.changes.get(at, 0) for at in it.written) / cost if cost and is_open else 0.0
+        seconds += (it.input.seconds or 0.0) * min(1.0, max(0.0, by_server, by_us))
+        planned += (it.input.seconds or 0.0) * by_server
     whole = whole_of(every)
     of_time = [100 * part / whole if whole else None for part in (seconds, planned)]
     return Worth(ours, 100 * server / before if before else 0.0, *of_time)
