@@ -26,7 +26,6 @@ pub(crate) mod list_candidates;
 pub(crate) mod remembered;
 pub(crate) mod retune_workload;
 pub(crate) mod ruled;
-pub(crate) mod session;
 pub(crate) mod sweep;
 pub(crate) mod what_if;
 

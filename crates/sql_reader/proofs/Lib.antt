@@ -7,7 +7,6 @@ pub mod Exactly
 pub mod Good
 pub mod Keeps
 pub mod KeptExpressions
-pub mod KeptParts
 pub mod KeptStatements
 pub mod KindSets
 pub mod KnownWords

@@ -1,4 +1,4 @@
-use Rattle.std.proofs.Common.{Some, rules}
+use Rattle.std.proofs.Common.{◌≡◌, Some, rules}
 use Rattle.command_line.specs.CommandLine.{plain_command}
 use Rattle.cophy_core.specs.Files.{counts, input_file}
 use Rattle.cophy_core.specs.Reading.{IsUnreadFile, StopsAtFiles}
