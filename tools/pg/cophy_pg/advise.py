@@ -23,6 +23,7 @@ from cophy_pg.curve import as_json as as_json_of_point
 from cophy_pg.folder import Folder
 from cophy_pg.folding import Folding
 from cophy_pg.included import searched_columns
+from cophy_pg.lowered import hints_of
 from cophy_pg.making import ddl_text, in_order
 from cophy_pg.outcomes import Verdict
 from cophy_pg.overview import gain_of, lines_of
@@ -123,6 +124,8 @@ class Run:
                 self._tell_owners(server, found.schema, choice)
                 with self.steps.step("plans", "comparing plans", 2 * len(judged.verdicts)):
                     plans = plans_of(server, found.schema, choice.advice, judged.verdicts, self.steps)
+                with self.steps.step("hints", "looking for indexes that our model doesn't know"):
+                    hints = hints_of(server, found.schema, choice.advice, judged.verdicts, self.steps)
             with self.steps.step("check", "checking the certificate"):
                 left_out = [it for it, _ in choice.left_out]
                 unused = self.searches.unused(found.schema, self.rules, choice.advice.picks, left_out)
@@ -142,7 +145,7 @@ class Run:
         parts = (found.schema, workload, advice, choice, judged, plans, (none, kept, all_), reason, proved)
         self._tell_rest(found.schema, advice, choice, unused)
         self.head["knee"] = knee_of(points, none.total)
-        result = Result(*parts, self.head, told, self.steps.seconds, self.owners, self.indexes)
+        result = Result(*parts, self.head, told, self.steps.seconds, self.owners, self.indexes, hints=hints)
         self.steps.begin("recommending")
         with self.steps.step("recommend", "telling what is plainly worth it"):
             asked = {it.number for it in choice.advice.picks if self.rules.asks_for(it)}

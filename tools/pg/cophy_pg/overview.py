@@ -8,6 +8,7 @@ from cophy_text.shown import grouped, percent, share, short, space
 from cophy_pg.choice import ASKED, UNTAKEN
 from cophy_pg.closing import advised_of, costs, last_of, recommended_of
 from cophy_pg.guesses import doubt_of, gains, is_judged, seconds_of, warning_of
+from cophy_pg.lowered import hinted, hints_told
 from cophy_pg.recommended import KINDS, LITTLE
 from cophy_pg.rewrite.parse import without_literals
 from cophy_pg.speed import duration
@@ -33,7 +34,7 @@ def lines_of(document: dict[str, Any]) -> list[str]:
     for at, it in enumerate(document["picks"], 1):
         lines += [*_pick(at, it, document), *_longer(it, document["picks"])]
     lines += [""] * bool(document["picks"])
-    lines += _hints(document)
+    lines += [*_hints(document), *hints_told(document)]
     lines += [told(long), ""] if (long := document.get("long_columns", [])) else []
     lines += [*_left_out(document["left_out"]), *_skipped(document)]
     unknown = [it for it in document["statements"] if it["not_explained"]]
@@ -81,12 +82,12 @@ def _much_skipped(document: dict[str, Any]) -> list[dict[str, Any]]:
 
 def unhelped(document: dict[str, Any]) -> list[str]:
     """A line for each slow statement that has much of the measured time and costs the server about as much with the picks,
-    the most first."""
+    the most first, but those with hints."""
     whole = seconds_of(document["statements"])
     if not whole:
         return []
     much = [it for it in document["statements"] if it["server_cost"] and it["seconds"] * UNHELPED >= whole]
-    slow = [it for it in much if it["seconds"] >= SLOW * it["calls"]]
+    slow = [it for it in much if it["seconds"] >= SLOW * it["calls"] and not hinted(document) & {*it["numbers"]}]
     same = [it for it in slow if it["server_cost"]["after"] > ABOUT * it["server_cost"]["before"]]
     listed = ((it["seconds"], it["sql"]) for it in sorted(same, key=lambda it: -float(it["seconds"])))
     return [f"no index here helps, {share(it, whole)} of the time: {short(sql, LONGEST_SQL)}" for it, sql in listed]

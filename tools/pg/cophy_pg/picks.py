@@ -45,9 +45,11 @@ def scans_of(plan: Any) -> set[tuple[str, str]]:
     return found.union(*(scans_of(it) for it in plan.get("Plans", ())))
 
 
-def home_of(server: Server) -> str:
-    """The schema of hypopg, as it is written; what was made in the session before is gone."""
+def home_of(server: Server, is_cleared: bool = True) -> str:
+    """The schema of hypopg, as it is written; what was made in the session before is gone, unless it is to stay."""
     home = quoted_name(_hypopg(server)[0])
+    if not is_cleared:
+        return home
     # Others may have made a second function of that name there, by which the call isn't unique.
     with suppress(ServerFault), server.savepoint():
         server.rows(f"SELECT {home}.hypopg_reset()")
@@ -76,6 +78,11 @@ def hypothetical(server: Server, home: str, table: Table, columns: list[str], ke
     listed, others = (", ".join(map(quoted_name, it)) for it in (columns[:keys], columns[keys:]))
     text = f"CREATE INDEX ON {quoted_name(table.schema)}.{quoted_name(table.name)} ({listed})"
     text += f" INCLUDE ({others})" if others else ""
+    return hypothetical_by(server, home, text)
+
+
+def hypothetical_by(server: Server, home: str, text: str) -> str:
+    """Makes the hypothetical index of a statement; its name in plans."""
     with server.savepoint():
         return str(server.value(f"SELECT indexname::text FROM {home}.hypopg_create_index(%s::text)", (text,)))
 

@@ -60,10 +60,10 @@ def plans_of(server: Server, schema: Schema, advice: Advice, found: list[Verdict
     known = [it for it in found if it.statement is not None and not it.fault and not it.statement.is_empty]
     with reading(server, "READ COMMITTED"):
         home_of(server)
-        plans.before = _each(explainer, known, progress)
+        plans.before = each_plan(explainer, known, progress)
         _, made = make(server, schema, advice)
         plans.shown = {name: _shown(advice, number) for name, number in made.items()}
-        plans.after = _each(explainer, known, progress)
+        plans.after = each_plan(explainer, known, progress)
         scans = {it for plan in plans.after.values() for it in scans_of(plan) if it[0] in made}
         plans.alone = {made[it] for it, _ in scans} - {made[it] for it, kind in scans if kind != ALONE}
         for pick in advice.picks:
@@ -92,7 +92,7 @@ def under(
     """The plans of some statements under picks, by the numbers of their verdicts."""
     with reading(server, "READ COMMITTED"):
         _, made = make(server, schema, advice)
-        plans = _each(Explainer(server, Columns()), [*listed], progress)
+        plans = each_plan(Explainer(server, Columns()), [*listed], progress)
     taken = {at: frozenset(made[name] for name in index_names(it) if name in made) for at, it in plans.items()}
     return {at: Plan(float(it["Total Cost"]), taken[at]) for at, it in plans.items()}
 
@@ -101,7 +101,7 @@ def _costs_without(
     explainer: Explainer, schema: Schema, advice: Advice, pick: Candidate, users: list[Verdict], progress: Progress
 ) -> dict[int, float]:
     make(explainer.server, schema, _but(advice, pick))
-    return {at: float(it["Total Cost"]) for at, it in _each(explainer, users, progress).items()}
+    return {at: float(it["Total Cost"]) for at, it in each_plan(explainer, users, progress).items()}
 
 
 def _shown(advice: Advice, number: int) -> str:
@@ -112,7 +112,8 @@ def _but(advice: Advice, pick: Candidate) -> Advice:
     return replace(advice, picks=[it for it in advice.picks if it.number != pick.number])
 
 
-def _each(explainer: Explainer, listed: Sequence[Verdict], progress: Progress) -> dict[int, Any]:
+def each_plan(explainer: Explainer, listed: Sequence[Verdict], progress: Progress) -> dict[int, Any]:
+    """The plans of some statements, by the numbers of their verdicts."""
     found: dict[int, Any] = {}
     for at, it in enumerate(listed, 1):
         progress(f"plan {at} of {len(listed)}")

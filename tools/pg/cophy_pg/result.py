@@ -51,6 +51,7 @@ class Result:
     owners: dict[str, str] = field(default_factory=dict)
     indexes: dict[str, int] = field(default_factory=dict)
     recommended: Recommended | None = None
+    hints: list[dict[str, Any]] = field(default_factory=list)
 
     def document(self) -> dict[str, Any]:
         """The document."""
@@ -79,6 +80,7 @@ class Result:
             "functions": self.judged.functions,
             "picks": [it | {"caveat": self._caveat(it["number"])} for it in self.plain_picks()],
             "left_out": [{**_index(it), "why": why} for it, why in self.choice.left_out],
+            "hints": self.hints,
             "statements": [self._statement(at, it) for at, it in enumerate(self.workload.records, 1)],
             "seconds": {name: round(it, 3) for name, it in self.seconds.items()},
         }

@@ -11,6 +11,7 @@ from cophy_pg import folder
 from cophy_pg.closing import advised_of, commands_of, doubts_of, is_all_advised, member_of, proof_of, recommended_of
 from cophy_pg.folder import Folder
 from cophy_pg.guesses import gains, is_judged
+from cophy_pg.lowered import hints_shown
 from cophy_pg.overview import headline, measured, much_skipped, named, part_of, unhelped
 from cophy_pg.speed import duration
 from cophy_pg.writes import told
@@ -107,7 +108,7 @@ def _rest(document: dict[str, Any], kept: Folder) -> list[str]:
     if names := [*dict.fromkeys(name for it in made for name in it.get("superfluous", []))]:
         lines += [f"superfluous beside them: {', '.join(names)}"]
     lines += told(document.get("writes", []))
-    lines += unhelped(document)[:MOST_UNHELPED]
+    lines += [*hints_shown(document), *unhelped(document)[:MOST_UNHELPED]]
     if much := much_skipped(document):
         what = "time" if measured(document) == "seconds" else "calls"
         lines += [f"no index is advised for skipped statements with {much} of the {what}"]

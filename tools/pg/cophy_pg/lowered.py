@@ -1,0 +1,258 @@
+"""Indexes over lower() or upper() of a column, of which our model knows nothing: hints that the server's planner has judged,
+for statements that the picks don't help. They are no part of the advice or of its proof."""
+from __future__ import annotations
+
+from collections.abc import Iterable, Iterator
+from dataclasses import dataclass
+from typing import Any, NamedTuple
+
+from pglast import ast
+from pglast.enums import A_Expr_Kind, BoolExprType
+
+from cophy_text.answers import Advice, Candidate
+from cophy_text.shown import share, space
+from cophy_pg.ddl import written_name, written_path
+from cophy_pg.explain import Explainer, Statement
+from cophy_pg.guesses import seconds_of
+from cophy_pg.outcomes import Verdict, numbered
+from cophy_pg.parameters import Columns
+from cophy_pg.picks import home_of, hypothetical_by, index_names, make
+from cophy_pg.plans import each_plan
+from cophy_pg.progress import Progress, say
+from cophy_pg.rewrite.expressions import nodes_of
+from cophy_pg.schema import Schema, Table
+from cophy_pg.server import ServerFault, Server, reading
+from cophy_pg.sizes import stored_pages
+from cophy_pg.unlimited import TEXTS, exceeding, warning
+
+FUNCTIONS = frozenset(("lower", "upper"))
+MOST, SHOWN, LITTLE = 8, 2, 0.01
+"""So many are asked about, those with the most time first, and so many stand in the summary, which have this part of the
+whole."""
+UNHELPED, HELPED = 0.9, 0.5
+"""A statement has a hint that costs more than this part of before with the picks, and less than this part of that with the
+index."""
+
+
+class Lowered(NamedTuple):
+    """An index over a function of a column, which goes by PostgreSQL's name."""
+
+    table: Table
+    function: str
+    column: str
+
+    def statement(self, how: str = "") -> str:
+        """What makes it. No other function of that name is meant, whatever the path."""
+        where = written_path((self.table.schema, self.table.name))
+        return f"CREATE INDEX {how}ON {where} (pg_catalog.{self.function}({written_name(self.column)}))"
+
+    def shown(self) -> str:
+        """Its expression by the names of the catalogue."""
+        return f"{self.function}({self.table.columns[self.column].shown})"
+
+
+@dataclass
+class Hint:
+    """An index with the statements that cost less with it than with the picks alone, and what a call of each costs then."""
+
+    index: Lowered
+    users: list[tuple[Verdict, float]]
+
+    def document(self, schema: Schema) -> dict[str, Any]:
+        """The hint as the document has it. It is as large as an index over the column itself."""
+        table, times = self.index.table, [it.input.seconds for it, _ in self.users]
+        alike = Candidate(0, table.shown, (table.columns[self.index.column].shown,), 0)
+        how = "" if table.is_partitioned else "CONCURRENTLY "
+        return {
+            "statement": f"{self.index.statement(how)};",
+            "table": table.shown,
+            "expression": self.index.shown(),
+            "statements": sorted({number for it, _ in self.users for number in it.written}),
+            "seconds": None if None in times else sum(it or 0.0 for it in times),
+            "before": sum(it.calls * (it.after or 0.0) for it, _ in self.users),
+            "after": sum(it.calls * cost for it, cost in self.users),
+            "stored_pages": stored_pages(schema, alike),
+            "long": exceeding(schema, alike),
+        }
+
+
+def hints_of(
+    server: Server, schema: Schema, advice: Advice, found: list[Verdict], progress: Progress
+) -> list[dict[str, Any]]:
+    """The hints for statements that were explained before, those with the most time first; none where the server refuses."""
+    hints: list[Hint] = []
+    compared = [*_compared(schema, found).items()]
+    try:
+        for index, users in sorted(compared, key=lambda it: -_time(it[1], found))[:MOST]:
+            progress(f"asking about {index.table.shown}({index.shown()})")
+            with reading(server, "READ COMMITTED"):
+                hint = Hint(index, [*_helped(server, schema, advice, index, users, progress)])
+            hints += [hint] * bool(hint.users)
+    except ServerFault as fault:
+        say(f"indexes over functions weren't asked about: {fault.shown()}")
+    return [it.document(schema) for it in hints]
+
+
+def _compared(schema: Schema, found: list[Verdict]) -> dict[Lowered, list[Verdict]]:
+    """The indexes that may help statements which the picks don't help, with these."""
+    compared: dict[Lowered, list[Verdict]] = {}
+    for it in found:
+        if it.fault or it.statement is None or it.before is None or it.after is None:
+            continue
+        if it.after > UNHELPED * it.before:
+            for index in lowered_in(it.statement, schema):
+                compared.setdefault(index, []).append(it)
+    return compared
+
+
+def _time(users: list[Verdict], found: list[Verdict]) -> float:
+    """The measured time of statements, or their cost where it isn't known of all that there are."""
+    if any(it.input.seconds is None for it in found):
+        return sum(it.calls * (it.after or 0.0) for it in users)
+    return sum(it.input.seconds or 0.0 for it in users)
+
+
+def _helped(
+    server: Server, schema: Schema, advice: Advice, index: Lowered, users: list[Verdict], progress: Progress
+) -> Iterator[tuple[Verdict, float]]:
+    """Of some statements those whose plans take an index beside the picks and cost less than half then, with these costs."""
+    make(server, schema, advice)
+    home = home_of(server, is_cleared=False)
+    try:
+        name = hypothetical_by(server, home, index.statement())
+        plans = each_plan(Explainer(server, Columns()), users, progress)
+    except ServerFault:
+        if server.is_lost():
+            raise
+        return
+    finally:
+        if not server.is_lost():
+            home_of(server)
+    for it in users:
+        plan = plans.get(it.number, {})
+        if name in index_names(plan) and (cost := float(plan["Total Cost"])) < HELPED * (it.after or 0.0):
+            yield it, cost
+
+
+def lowered_in(statement: Statement, schema: Schema) -> set[Lowered]:
+    """The functions of columns that a statement compares by `=`, IN or ANY, so that an index over one may serve it. Where a
+    function of somebody else is meant, no plan takes the index."""
+    by_number = {it.oid: it for it in schema.tables.values()}
+    common = {(None, it.ctename) for it in nodes_of(statement.tree) if isinstance(it, ast.CommonTableExpr)}
+    tables = {it: by_number[at] for it, at in statement.numbers.items() if at in by_number and it not in common}
+    found = set[Lowered]()
+    for query in nodes_of(statement.tree):
+        if isinstance(query, ast.SelectStmt):
+            parts = [*_parts(query.fromClause or ())]
+            sources = {_name(it): tables[key] for it in parts if (key := _key(it)) in tables}
+            conditions = [query.whereClause, *(it.quals for it in parts if isinstance(it, ast.JoinExpr))]
+            compared = [side for it in conditions for one in _joined(it) for side in _sides(one)]
+            found |= {it for side, other in compared if (it := _lowered(side, other, sources)) is not None}
+    return found
+
+
+def _parts(nodes: Iterable[Any]) -> Iterator[Any]:
+    """The sources of a query and its joins."""
+    for it in nodes:
+        yield it
+        if isinstance(it, ast.JoinExpr):
+            yield from _parts((it.larg, it.rarg))
+
+
+def _key(node: Any) -> tuple[str | None, str] | None:
+    """The name of a table; nothing of another source, or where its columns have other names."""
+    if not isinstance(node, ast.RangeVar) or node.alias and node.alias.colnames:
+        return None
+    return node.schemaname, node.relname
+
+
+def _name(node: Any) -> str:
+    return str(node.alias.aliasname if node.alias else node.relname)
+
+
+def _joined(node: Any) -> Iterator[Any]:
+    """The conditions that are joined by AND."""
+    if isinstance(node, ast.BoolExpr) and node.boolop == BoolExprType.AND_EXPR:
+        for it in node.args:
+            yield from _joined(it)
+    else:
+        yield node
+
+
+def _sides(node: Any) -> list[tuple[Any, Any]]:
+    """What a condition compares, each with its other side."""
+    if not isinstance(node, ast.A_Expr) or node.name[-1].sval != "=":
+        return []
+    if node.kind == A_Expr_Kind.AEXPR_OP:
+        return [(node.lexpr, node.rexpr), (node.rexpr, node.lexpr)]
+    return [(node.lexpr, node.rexpr)] if node.kind in (A_Expr_Kind.AEXPR_IN, A_Expr_Kind.AEXPR_OP_ANY) else []
+
+
+def _lowered(side: Any, other: Any, sources: dict[str, Table]) -> Lowered | None:
+    """A function of one column of a text, where the other side has no column of its table."""
+    if not isinstance(side, ast.FuncCall) or len(side.args or ()) != 1:
+        return None
+    *before, function = (it.sval for it in side.funcname)
+    if function not in FUNCTIONS or before not in ([], ["pg_catalog"]):
+        return None
+    name, column = _source(_uncast(side.args[0]), sources)
+    if not name or sources[name].columns[column].type not in TEXTS or sources[name].columns[column].no_key:
+        return None
+    if any(_source(it, sources)[0] == name for it in nodes_of(other)):
+        return None
+    return Lowered(sources[name], function, column)
+
+
+def _uncast(node: Any) -> Any:
+    """What a cast to text is of; that of a varchar changes nothing."""
+    is_text = isinstance(node, ast.TypeCast) and node.typeName.names[-1].sval == "text"
+    return node.arg if is_text and not node.typeName.arrayBounds else node
+
+
+def _source(node: Any, sources: dict[str, Table]) -> tuple[str, str]:
+    """The name of the table that a column is of, and its own; without any where it isn't known."""
+    if not isinstance(node, ast.ColumnRef):
+        return "", ""
+    *before, name = (it.sval if isinstance(it, ast.String) else "*" for it in node.fields)
+    named = {before[-1]} & {*sources} if before else {*sources}
+    found = [it for it in named if name in sources[it].columns]
+    return (found[0], name) if len(found) == 1 else ("", name)
+
+
+def hints_shown(document: dict[str, Any]) -> list[str]:
+    """A line for each of the hints with the most time, for the summary."""
+    found = [it for it in document.get("hints", []) if _part(it, document)[0] >= LITTLE * _part(it, document)[1]]
+    return [
+        f"a hint by the server's planner alone: {_gain(it, document)} with {it['statement']}" for it in found[:SHOWN]
+    ]
+
+
+def hints_told(document: dict[str, Any]) -> list[str]:
+    """All hints with their sizes and their statements."""
+    lines = []
+    for it in document.get("hints", []):
+        told = f"{_gain(it, document)}, {numbered('statement', it['statements'])}"
+        told += f", {space(it['stored_pages'])}" if it["stored_pages"] is not None else ""
+        lines += [f"  {it['statement']}", f"    {told}"]
+        lines += [f"    {fails}"] if (fails := warning(it["long"])) else []
+    head = "hints by the server's planner alone, of indexes that our model doesn't know, beside those above:"
+    return [head, *lines, ""] if lines else []
+
+
+def hinted(document: dict[str, Any]) -> set[int]:
+    """The numbers of the statements that have hints."""
+    return {number for it in document.get("hints", []) for number in it["statements"]}
+
+
+def _gain(hint: dict[str, Any], document: dict[str, Any]) -> str:
+    """What a hint's statements have of the whole, and how much less they cost."""
+    part, whole, what = _part(hint, document)
+    return f"{share(part, whole)} of the {what} costs {share(hint['before'] - hint['after'], hint['before'])} less"
+
+
+def _part(hint: dict[str, Any], document: dict[str, Any]) -> tuple[float, float, str]:
+    """The measured time of a hint's statements beside that of all, or else what they cost the server with the picks."""
+    whole = seconds_of(document["statements"])
+    if hint["seconds"] is not None and whole:
+        return hint["seconds"], whole, "time"
+    return hint["before"], document["server_cost"]["after"], "cost"
