@@ -111,7 +111,7 @@ class Statements(InFolder):
         self.assertIn(LAID.replace("t_c_idx", "t_c"), text)
         self.assertIn("size 3 pages (0.0 MB), as PostgreSQL stores it about 0 pages", text)
         script = self.ddl(CLUSTERED + INDEX, "--script")
-        self.assertIn("1 of 1: t(c) clustered, by an index that is there", script)
+        self.assertIn("1: t(c) clustered, by an index that is there", script)
         self.assertNotIn("DROP INDEX", script)
         self.assertEqual(script.count('\n--   CLUSTER "public"."t" USING "t_c";\n'), 1)
         self.assertEqual(script.count('CLUSTER "public"."t" USING "t_c";'), 2)

@@ -177,7 +177,7 @@ class Made(OverTables):
     def test_it_is_made_once_and_taken_back(self) -> None:
         text = self.script("mixed(id)", "mixed(c) clustered")
         said = self.run_script(text)
-        self.assertRegex(said, r"(?s)2 of 2: mixed\(c\) clustered, about .*1 of 2: mixed\(id\), about ")
+        self.assertRegex(said, r"(?s)2: mixed\(c\) clustered, about .*1: mixed\(id\), about ")
         self.assertRegex(
             said,
             r"readers too \(ACCESS EXCLUSIVE\), while it is written anew: 1\d\d pages \(1\.\d MB\) and its indexes, about 1 ",

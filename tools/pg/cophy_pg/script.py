@@ -43,7 +43,7 @@ def _text(
     """The script without what marks it."""
     listed = [it for it in made if not it.why_not]
     parted = [it for it in listed if _table(schema, it).is_partitioned]
-    prepared = [INDEX.replace("COUNT", str(len(listed)))] * any(it.indexes for it in listed if it not in parted)
+    prepared = [INDEX] * any(it.indexes for it in listed if it not in parted)
     prepared += [STATE, PARTS] * bool(parted) + [LAID] * any(it.laid is not None for it in listed)
     prepared += [PASSED] * bool(listed)
     begin = BEGIN.replace("UNADVISED", ",".join(map(str, unadvised)))
@@ -54,7 +54,7 @@ def _text(
         lines += [
             "",
             *_about(schema, it, it.place in unadvised, gains.get(it.pick.number, "")),
-            *_steps(schema, it, speed, len(listed)),
+            *_steps(schema, it, speed),
         ]
     names = ",".join(written_text(f"{it.place}.{it.pick.shown().replace(', ', ',')}") for it in listed)
     passed = [f"EXECUTE cophy_passed (ARRAY[{names}]);"] * bool(listed)
@@ -68,12 +68,12 @@ def _about(schema: Schema, made: Made, is_unadvised: bool, gain: str) -> list[st
     return [f"-- {it}" for it in [text, *[fails] * bool(fails)]]
 
 
-def _steps(schema: Schema, made: Made, speed: Speed, count: int) -> list[str]:
+def _steps(schema: Schema, made: Made, speed: Speed) -> list[str]:
     """What makes a pick, or takes it back."""
     table, about = _table(schema, made), "by an index that is there"
     if made.indexes:
         about = f"about {space(stored_pages(schema, made.pick) or made.pick.pages)} and {speed.of_index(table)}"
-    say = f"\\echo '{made.place} of {count}: {made.pick.shown()}, {about}'"
+    say = f"\\echo '{made.place}: {made.pick.shown()}, {about}'"
     if table.is_partitioned:
         return _alone(made, _undo_parts(table, made), [say, *_make_parts(table, made)])
     lines = _make(made, about)

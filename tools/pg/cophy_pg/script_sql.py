@@ -60,7 +60,7 @@ WITH index AS (
         NOT is_out AND :'is_undo' AS is_back, format('%s: %s ', $5, regexp_replace($2, '[^A-Za-z0-9_]', '?', 'g')) AS told FROM asked
 )
 SELECT '{OWN} ' || step FROM todo, LATERAL (VALUES
-    (1, $7 <> '' AND NOT is_out AND NOT :'is_undo', format('SELECT %L', format('%s of COUNT: %s, %s', $5, $6, $7))),
+    (1, $7 <> '' AND NOT is_out AND NOT :'is_undo', format('SELECT %L', format('%s: %s, %s', $5, $6, $7))),
     (2, is_in AND is_there, 'SELECT ''it is there already'''),
     (3, is_in AND is_other, format('SET cophy.fault TO %L', format('the index %s can not be made: its name is taken by another', $6))),
     (4, is_new AND is_invalid, 'SELECT ''an earlier run left it INVALID, so it is dropped first'''),
