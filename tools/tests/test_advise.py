@@ -228,6 +228,9 @@ class Advise(OverSql):
             found = json.loads(self.call(*words, *more, "--folder", folder).stdout)
             listed = {it["sql"]: it["calls"] for it in found["statements"] if it["sql"].startswith("SELECT a")}
             self.assertEqual([listed[f"SELECT a FROM t WHERE {it} = $1"] for it in "bc"], counts)
+            times = [it["saves"]["planned"] for it in found["picks"]]
+            self.assertEqual(times, sorted(times, reverse=True))
+            self.assertRegex((Path(folder) / "summary.txt").read_text(), r"\n +MB +time  index, for\n 1\. ")
             self.assertEqual(json.loads((Path(folder) / "snapshot.json").read_text())["version"], 1)
         once = "statements that ran once have 33.3 % of the workload's cost by our model: --min-calls 2 leaves them out"
         self.assertEqual([once in it for it in found["warnings"]], [True])

@@ -84,6 +84,11 @@ class Worths(unittest.TestCase):
         listed = [pick(27.0, 3.3), pick(1.0, 30.0), pick(20.0, 0.0, clustered=True), pick(5.0, 0.0, outcome="unknown")]
         places = sorted(range(4), key=lambda at: place_of(listed[at]))
         self.assertEqual(places, [1, 2, 3, 0])
+        # Where time is known, it is what counts: that by the server, and the most of one that the server doesn't judge.
+        for it, (measured, planned) in zip(listed, ((40.0, 15.3), (1.9, 1.6), (2.0, 0.0), (9.0, 0.0)), strict=True):
+            it["saves"] |= {"measured": measured, "planned": planned}
+        self.assertEqual(sorted(range(4), key=lambda at: place_of(listed[at])), [0, 3, 2, 1])
+        listed = [pick(27.0, 3.3), pick(1.0, 30.0), pick(20.0, 0.0, clustered=True), pick(5.0, 0.0, outcome="unknown")]
         doubts = [doubt_of(it) for it in listed]
         self.assertEqual(doubts, ["the server saves 3.3 %: probably not worth 33.0 MB", "", "", ""])
         for ours, server, planned, why in (

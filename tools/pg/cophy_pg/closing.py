@@ -11,6 +11,7 @@ from cophy_text import files
 from cophy_text.shown import grouped, share, space
 from cophy_pg import folder
 from cophy_pg.folder import Folder
+from cophy_pg.guesses import seconds_of
 from cophy_pg.speed import duration
 from cophy_pg.trust import DISTRUST, WHO
 
@@ -39,6 +40,17 @@ def doubts_of(document: dict[str, Any]) -> list[str]:
 def advised_of(document: dict[str, Any]) -> list[dict[str, Any]]:
     """The picks that are recommended."""
     return [it for it in document["picks"] if not it.get("caveat")]
+
+
+def time_falls(document: dict[str, Any]) -> float:
+    """How many percent of the measured time the recommended picks save, if each statement's falls as the server says that its
+    cost does. One whose cost the server doesn't say saves nothing, and what isn't recommended is taken off."""
+    whole, saved = seconds_of(document["statements"]) or 0.0, 0.0
+    for it in document["statements"]:
+        if (cost := it["server_cost"]) and cost["before"]:
+            saved += (it["seconds"] or 0.0) * (cost["before"] - cost["after"]) / cost["before"]
+    others = sum(it["saves"].get("planned") or 0.0 for it in document["picks"] if it.get("caveat"))
+    return max(0.0, 100 * saved / whole - others) if whole else 0.0
 
 
 def is_all_advised(document: dict[str, Any]) -> bool:

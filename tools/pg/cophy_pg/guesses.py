@@ -49,6 +49,13 @@ def is_judged(pick: dict[str, Any]) -> bool:
     return pick["outcome"] == "taken" and not pick.get("clustered", False)
 
 
+def time_saved(pick: dict[str, Any]) -> float | None:
+    """What a pick saves of the measured time, in percent: by the server's planner where that judges it, or else by whoever sees
+    more. Nothing where some time isn't known."""
+    found: float | None = pick["saves"].get("planned" if is_judged(pick) else "measured")
+    return found
+
+
 def doubt_of(pick: dict[str, Any]) -> str:
     """What there is to say of a pick that by the server, of the cost and of the measured time, saves far less than by our model."""
     ours, server, time = (pick["saves"].get(it) or 0.0 for it in ("ours", "server", "planned"))

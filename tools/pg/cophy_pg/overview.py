@@ -7,7 +7,7 @@ from cophy_text.answers import counted
 from cophy_text.shown import grouped, percent, share, short, space
 from cophy_pg.choice import ASKED, UNTAKEN
 from cophy_pg.closing import advised_of, costs, last_of, recommended_of
-from cophy_pg.guesses import doubt_of, gains, is_judged, seconds_of, warning_of
+from cophy_pg.guesses import doubt_of, gains, is_judged, seconds_of, time_saved, warning_of
 from cophy_pg.lowered import hinted, hints_told
 from cophy_pg.recommended import KINDS, LITTLE
 from cophy_pg.rewrite.parse import without_literals
@@ -18,8 +18,8 @@ MOST_CHANGES = 5
 SAVES = f"   {'size':>9} {'our model':>9} {'server':>9}  % of the cost saved; statement, "
 MUCH = 20
 """A skipped statement is named that has this part of the whole."""
-UNHELPED, ABOUT, SLOW = 10, 0.9, 0.005
-"""And one that has this part of the time, costs so much as before, and takes so many seconds a call."""
+UNHELPED, SEEN, ABOUT = 10, 1000, 0.9
+"""Statements that have this part of the time together, each this one at least, and cost so much as before are told."""
 MOST_NUMBERS, SQL, LONGEST_SQL = 5, 45, 60
 """So many numbers of statements, and so many characters of one, are shown; of one that is told alone so many."""
 WIDE = 5
@@ -81,16 +81,20 @@ def _much_skipped(document: dict[str, Any]) -> list[dict[str, Any]]:
 
 
 def unhelped(document: dict[str, Any]) -> list[str]:
-    """A line for each slow statement that has much of the measured time and costs the server about as much with the picks,
-    the most first, but those with hints."""
+    """A line about the statements without hints that cost the server about as much with the picks, where they have much of the
+    measured time together, with the one that has the most."""
     whole = seconds_of(document["statements"])
     if not whole:
         return []
-    much = [it for it in document["statements"] if it["server_cost"] and it["seconds"] * UNHELPED >= whole]
-    slow = [it for it in much if it["seconds"] >= SLOW * it["calls"] and not hinted(document) & {*it["numbers"]}]
-    same = [it for it in slow if it["server_cost"]["after"] > ABOUT * it["server_cost"]["before"]]
-    listed = ((it["seconds"], it["sql"]) for it in sorted(same, key=lambda it: -float(it["seconds"])))
-    return [f"no index here helps, {share(it, whole)} of the time: {short(sql, LONGEST_SQL)}" for it, sql in listed]
+    others = (it for it in document["statements"] if not hinted(document) & {*it["numbers"]})
+    seen = [it for it in others if it["server_cost"] and it["seconds"] * SEEN >= whole]
+    same = [it for it in seen if it["server_cost"]["after"] > ABOUT * it["server_cost"]["before"]]
+    time = seconds_of(same) or 0.0
+    if time * UNHELPED < whole:
+        return []
+    most = max(same, key=lambda it: float(it["seconds"]))
+    what = f"no advised index helps statements with {share(time, whole)} of the time, the most of them"
+    return [f"{what}: {short(most['sql'], LONGEST_SQL)}"]
 
 
 def _skipped(document: dict[str, Any]) -> list[str]:
@@ -137,10 +141,17 @@ def named(pick: dict[str, Any]) -> str:
 
 
 def gain_of(pick: dict[str, Any]) -> str:
-    """What a pick saves, by the server's planner where that judged it, and the statement that gains the most, without literals."""
-    saves = pick["saves"]["server"] if is_judged(pick) else pick["saves"]["ours"]
-    users = gains(pick)
-    return f"saves {percent(saves)}" + (f", the most of {short(without_literals(users[0]['sql']))}" if users else "")
+    """What a pick saves, of the measured time where that is known, and the statement that gains the most, without literals."""
+    time, user = time_saved(pick), user_of(pick)
+    cost = pick["saves"]["server"] if is_judged(pick) else pick["saves"]["ours"]
+    saved = f"saves {percent(cost)}" if time is None else f"saves {percent(time)} of the time"
+    return saved + (f", the most of {short(without_literals(user['sql']))}" if user else "")
+
+
+def user_of(pick: dict[str, Any]) -> dict[str, Any] | None:
+    """The statement that gains the most by a pick, which is the first."""
+    gaining = (it for it in pick["changes"] if max(it["ours"], it["server"]) > 0)
+    return next(iter(gains(pick)), None) if time_saved(pick) is None else next(gaining, None)
 
 
 def name_of(statement: dict[str, Any]) -> str:
@@ -178,8 +189,14 @@ def part_of(document: dict[str, Any]) -> str:
     whole = sum(it[what] for it in every)
     if not whole or what == "calls" and all(it["numbers"] for it in every):
         return text
-    of = f"the {_seconds(whole)} measured" if what == "seconds" else "the calls"
+    of = time_of(document) or "the calls"
     return f"{text} with {share(sum(it[what] for it in every if it['numbers']), whole)} of {of}"
+
+
+def time_of(document: dict[str, Any]) -> str:
+    """The measured time of all statements in words; nothing where it isn't known."""
+    whole = seconds_of(document["statements"])
+    return f"the {_seconds(whole)} measured" if whole else ""
 
 
 def measured(document: dict[str, Any]) -> str:

@@ -10,7 +10,7 @@ from cophy_text.answers import Advice, Candidate, Prices
 from cophy_text.shown import short
 from cophy_pg.choice import Choice
 from cophy_pg.ddl import Made, create, taken_names
-from cophy_pg.guesses import is_guessed, is_judged
+from cophy_pg.guesses import is_guessed, is_judged, time_saved, whole_of
 from cophy_pg.outcomes import ORDINARY, Outcome
 from cophy_pg.plans import Plans
 from cophy_pg.recommended import Recommended, caveat_of
@@ -179,8 +179,8 @@ class Result:
 
     def _changes(self, reason: Reason) -> list[dict[str, Any]]:
         """The statements that a pick changes the cost of, by our model or by the server's, what all calls save in percent of
-        the workload's cost; less than 0 where they cost more with it. Inputs that are written as the same statements are
-        one."""
+        the workload's cost; less than 0 where they cost more with it. Those that save the most time are the first, or else
+        those that save the most of the cost. Inputs that are written as the same statements are one."""
         before, server_before = self.prices[0].total, self.judged.sums()[1]
         found: dict[tuple[int, ...], dict[str, Any]] = {}
         texts = [text for text, _ in self.workload.statements]
@@ -208,7 +208,21 @@ class Result:
             for it in found.values()
             if it["ours"] or it["server"]
         ]
-        return sorted(shares, key=lambda it: (-max(it["ours"], it["server"]), it["numbers"]))
+        times = self._times(reason)
+        return sorted(
+            shares,
+            key=lambda it: (-times.get(tuple(it["numbers"]), 0.0), -max(it["ours"], it["server"]), it["numbers"]),
+        )
+
+    def _times(self, reason: Reason) -> dict[tuple[int, ...], float]:
+        """What of each statement's measured time a pick saves by the server's planner; nothing where some time isn't known."""
+        found = dict[tuple[int, ...], float]()
+        if whole_of([it.input.seconds for it in self.workload.records]) is None:
+            return found
+        for it in self.judged.verdicts:
+            part = self.plans.saved(reason.pick.number, it) / it.before if it.before else 0.0
+            found[tuple(it.written)] = found.get(tuple(it.written), 0.0) + (it.input.seconds or 0.0) * part
+        return found
 
     def _statement(self, at: int, record: Record) -> dict[str, Any]:
         given = record.input
@@ -237,10 +251,11 @@ class Result:
 
 
 def place_of(pick: dict[str, Any]) -> tuple[float, int]:
-    """What picks are put in order by: what the server says that they save, where it says so, or else the most."""
-    saves = pick["saves"]
-    most = saves["server"] if is_judged(pick) else max(saves["ours"], saves["server"])
-    return -most, pick["number"]
+    """What picks are put in order by: what they save of the measured time, where that is known; or else what the server says
+    that they save of the cost, where it says so, or the most."""
+    saves, time = pick["saves"], time_saved(pick)
+    cost = saves["server"] if is_judged(pick) else max(saves["ours"], saves["server"])
+    return -(cost if time is None else time), pick["number"]
 
 
 def _index(pick: Candidate) -> dict[str, Any]:

@@ -1,6 +1,7 @@
 """What `advise` prints: a verdict, the indexes, and the one command that makes them. All else is counted."""
 from __future__ import annotations
 
+import re
 import textwrap
 from typing import Any
 
@@ -8,33 +9,46 @@ from cophy_text import files
 from cophy_text.answers import counted
 from cophy_text.shown import percent, share, short, space
 from cophy_pg import folder
-from cophy_pg.closing import advised_of, commands_of, doubts_of, is_all_advised, member_of, proof_of, recommended_of
+from cophy_pg.closing import (
+    advised_of,
+    commands_of,
+    doubts_of,
+    is_all_advised,
+    member_of,
+    proof_of,
+    recommended_of,
+    time_falls,
+)
 from cophy_pg.folder import Folder
-from cophy_pg.guesses import gains, is_judged
+from cophy_pg.guesses import is_judged, seconds_of, time_saved
 from cophy_pg.lowered import hints_shown
-from cophy_pg.overview import headline, measured, much_skipped, named, part_of, unhelped
+from cophy_pg.overview import headline, measured, much_skipped, named, part_of, time_of, unhelped, user_of
+from cophy_pg.searches import CUT
 from cophy_pg.speed import duration
 from cophy_pg.writes import told
 
 WIDTH, KEPT = 100, "\N{NO-BREAK SPACE}"
+UNIT = re.compile(r"(?<=\d) (?=(?:%|s|MB|GB)(?!\w))")
+"""No line ends between a number and its unit."""
 SQL, LONGEST = 34, 40
 """So many characters of a statement are shown, and such a name of an index has others in its column."""
 MOST_WARNINGS = 2
 """Where there are no more warnings, the summary has them, each up to what ends it."""
-MOST_UNADVISED, MOST_UNHELPED = 8, 2
+WELL_JUDGED = 0.95
+"""Where the statements that were priced have this part of the measured time, that isn't told."""
 
 
 def verdict(document: dict[str, Any], kept: Folder) -> list[str]:
     """The summary of a document whose files are in a folder."""
     picks = [*enumerate(document["picks"], 1)]
     advised = [it for it in picks if not it[1].get("caveat")]
-    sentence = _sentence(document, len(advised)).replace(" %", f"{KEPT}%")
+    sentence = UNIT.sub(KEPT, _sentence(document, len(advised)))
     lines = [it.replace(KEPT, " ") for it in textwrap.wrap(sentence, WIDTH, break_on_hyphens=False)]
-    lines += ["", f"{'MB':>10}{'saves':>9}  index, for"] * bool(advised)
+    head = "time" if time_of(document) else "saves"
+    lines += ["", f"{'MB':>10}{head:>9}  index, for"] * bool(advised)
     wide = max((len(named(it)) for _, it in advised if len(named(it)) <= LONGEST), default=0)
     lines += [_row(at, it, wide) for at, it in advised]
-    lines += _unadvised([it for it in picks if it[1].get("caveat")])
-    lines += ["", *_rest(document, kept)]
+    lines += ["", *_unadvised(document), *_rest(document, kept)]
     if picks:
         known = [it["build_seconds"] for _, it in advised or picks if it.get("build_seconds") is not None]
         time = f" (about {duration(sum(known))}, reads and writes go on)" if known and not _locks(document) else ""
@@ -57,33 +71,50 @@ def _sentence(document: dict[str, Any], count: int) -> str:
     if not count:
         what = headline(document)
         return f"{what[0].upper()}{what[1:]} for {document['database']!a}, {judged}."
-    found = recommended_of(document)
-    ours, server = document["cost"], document["server_cost"]
-    what = f"Make {'this index' if count == 1 else f'these {count} indexes'}, {space(found['stored_pages'])}"
-    saved = _saved(found["server_cost"], server["before"])
-    by_model, most = _saved(found["cost"], ours["before"]), _saved(ours["bound"], ours["before"])
-    text = f"{what}: the workload then costs {saved} less by the server's planner. By our model it is {by_model}"
-    if found["cost"] == ours["bound"]:
-        text += f", the most that this budget can save ({proof_of(document)})."
-    else:
-        # What isn't recommended is part of the rest, and is listed below.
-        gap = document.get("gap") if is_all_advised(document) else None
-        rest = f"; the rest is mostly {gap['index']}: {gap['why']}" if gap else ""
-        text += f", of at most {most} within this budget ({proof_of(document)}{rest})."
-    return f"{text} {judged[0].upper()}{judged[1:]}."
+    make = f"Make {'this index' if count == 1 else f'these {count} indexes'}"
+    size = space(recommended_of(document)["stored_pages"])
+    text = f"{make}, {size}: the workload then {_brings(document)}. {_bound(document, count)}"
+    return text + f" {judged[0].upper()}{judged[1:]}." * (not _is_well_judged(document))
 
 
-def _saved(after: float, before: float) -> str:
-    return share(before - after, before)
+def _brings(document: dict[str, Any]) -> str:
+    """What the workload takes less, by the measured time where that is known."""
+    before, after = document["server_cost"]["before"], recommended_of(document)["server_cost"]
+    cost, time, falls = share(before - after, before), time_of(document), time_falls(document)
+    if not time:
+        return f"costs {cost} less by the server's planner"
+    about = f"{falls:.0f} %" if falls >= 1 else percent(falls)
+    return f"takes about {about} less of {time}, if time falls as the server's planner says that cost does (by {cost})"
+
+
+def _bound(document: dict[str, Any], count: int) -> str:
+    """What is saved by our model, and what no indexes save more than."""
+    ours, cost = document["cost"], recommended_of(document)["cost"]
+    saved, most = (share(ours["before"] - it, ours["before"]) for it in (cost, ours["bound"]))
+    if cost == ours["bound"]:
+        return f"By our model it is {saved}, and no indexes within this budget save more ({proof_of(document)})."
+    # What isn't recommended is part of the rest, and is counted below.
+    gap = document.get("gap") if is_all_advised(document) else None
+    rest = f"; the rest is mostly {gap['index']}: {gap['why']}" if gap else ""
+    these = "this saves" if count == 1 else "these save"
+    text = f"No indexes within this budget save more than {most} by our model, by which {these} {saved}"
+    return f"{text} ({proof_of(document)}{rest})."
+
+
+def _is_well_judged(document: dict[str, Any]) -> bool:
+    """Whether the statements that were priced have nearly all of the measured time."""
+    every = document["statements"]
+    whole, priced = seconds_of(every), seconds_of(it for it in every if it["numbers"])
+    return bool(whole) and (priced or 0.0) >= WELL_JUDGED * (whole or 0.0)
 
 
 def _row(at: int, pick: dict[str, Any], wide: int) -> str:
     """An index with its size, what it saves, and the statement that gains the most."""
-    saves = pick["saves"]["server"] if is_judged(pick) else pick["saves"]["ours"]
+    time, user = time_saved(pick), user_of(pick)
+    cost = pick["saves"]["server"] if is_judged(pick) else pick["saves"]["ours"]
     mark = " " if is_judged(pick) else "~"
-    users = gains(pick)
-    sql = f"  {short(users[0]['sql'], SQL)}" if users else ""
-    return f"{_begin(at, pick)} {mark}{percent(saves):>7}  {named(pick):<{wide}}{sql}".rstrip()
+    sql = f"  {short(user['sql'], SQL)}" if user else ""
+    return f"{_begin(at, pick)} {mark}{percent(cost if time is None else time):>7}  {named(pick):<{wide}}{sql}".rstrip()
 
 
 def _begin(at: int, pick: dict[str, Any]) -> str:
@@ -91,14 +122,15 @@ def _begin(at: int, pick: dict[str, Any]) -> str:
     return f"{at:>2}. {size.removesuffix(' MB'):>6}" if size.endswith(" MB") else f"{at:>2}. {size}"
 
 
-def _unadvised(listed: list[tuple[int, dict[str, Any]]]) -> list[str]:
-    """The picks that the script leaves out, with the reasons."""
-    if not listed:
+def _unadvised(document: dict[str, Any]) -> list[str]:
+    """How many picks the script leaves out, whose reasons the details have."""
+    every, made = document["picks"], advised_of(document)
+    count = len(every) - len(made)
+    if not count:
         return []
-    lines = ["", "not recommended, so left out (psql -v all=1 makes them too):"]
-    lines += [f"{_begin(at, it)}  {named(it)}: {it['caveat']}" for at, it in listed[:MOST_UNADVISED]]
-    rest = len(listed) - MOST_UNADVISED
-    return lines + [f"    and {rest} more: {folder.DETAILS}"] * (rest > 0)
+    size = space(document["stored_pages"] - recommended_of(document)["stored_pages"])
+    what = f"{count}{' more' * bool(made)} {'is' if count == 1 else 'are'}n't recommended"
+    return [f"{what} ({size}; psql -v all=1 makes {'it' if count == 1 else 'them'}{' too' * bool(made)})"]
 
 
 def _rest(document: dict[str, Any], kept: Folder) -> list[str]:
@@ -106,16 +138,18 @@ def _rest(document: dict[str, Any], kept: Folder) -> list[str]:
     lines = []
     made = advised_of(document) or document["picks"]
     if names := [*dict.fromkeys(name for it in made for name in it.get("superfluous", []))]:
-        lines += [f"superfluous beside them: {', '.join(names)}"]
+        lines += [f"then superfluous, so may be dropped once these are in use: {', '.join(names)}"]
     lines += told(document.get("writes", []))
-    lines += [*hints_shown(document), *unhelped(document)[:MOST_UNHELPED]]
+    lines += [*hints_shown(document), *unhelped(document)]
     if much := much_skipped(document):
         what = "time" if measured(document) == "seconds" else "calls"
         lines += [f"no index is advised for skipped statements with {much} of the {what}"]
-    warnings = [*document["warnings"], *doubts_of(document)]
+    every = [*document["warnings"], *doubts_of(document)]
+    warnings = [it for it in every if it != CUT]
     shown = warnings if len(warnings) <= MOST_WARNINGS else [it for it in warnings if it.endswith(" leaves them out")]
     lines += [f"warning: {it.partition('; ')[0]}" for it in shown]
-    rest = len(warnings) - len(shown)
-    notes = [counted(rest, "more warning" if shown else "warning")] * bool(rest)
+    # That the time for exchanges was up is counted, but isn't worth a look alone.
+    is_more = len(warnings) > len(shown)
+    notes = [counted(len(every) - len(shown), "more warning" if shown else "warning")] * is_more
     notes += [f"{len(document['left_out'])} left out"] * bool(document["left_out"])
     return [*lines, f"{', '.join([*notes, 'all else'])}: {files.shown(kept.path(folder.DETAILS))}"]
