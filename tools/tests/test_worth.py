@@ -102,6 +102,34 @@ class Worths(unittest.TestCase):
             it["saves"]["planned"] = planned
             self.assertEqual(doubt_of(it), why)
 
+    def test_the_statement_that_saves_the_most_time_is_the_first_of_a_pick(self) -> None:
+        from cophy_pg.plans import Plans
+        from cophy_pg.result import Result
+        from cophy_pg.verify import Judged
+        from cophy_pg.workload import Record, Workload
+
+        # Half of the cost of each is saved: of much cost in little time, and of little cost in much time.
+        def numbers_of(*times: float | None) -> list[list[int]]:
+            given = [Input(f"SELECT {at}", 1, seconds) for at, seconds in enumerate(times, 1)]
+            costs = (1000.0, 10.0)
+            found = [
+                Verdict(at, it, {at: 1.0}, before=cost, after=cost / 2)
+                for at, (it, cost) in enumerate(zip(given, costs), 1)
+            ]
+            plans = Plans(
+                after={it.number: {"Total Cost": it.after} for it in found},
+                without={1: {it.number: it.before or 0.0 for it in found}},
+            )
+            records = [Record(it, cast(Any, None), [at]) for at, it in enumerate(given, 1)]
+            workload, none = Workload(records, [(it.text, 1) for it in given]), Prices({}, 1000)
+            parts = (cast(Any, None), workload, Advice(9, []), cast(Any, None), Judged(found, [], []), plans)
+            result = Result(*parts, (none, none, none), [], "", {}, {})
+            return [it["numbers"] for it in result._changes(Reason(PICKS[0], 1000, {}))]
+
+        self.assertEqual(numbers_of(0.1, 9.0), [[2], [1]])
+        self.assertEqual(numbers_of(9.0, 0.1), [[1], [2]])
+        self.assertEqual(numbers_of(None, 9.0), [[1], [2]])
+
 
 if __name__ == "__main__":
     unittest.main()
