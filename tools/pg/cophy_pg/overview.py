@@ -18,8 +18,9 @@ MOST_CHANGES = 5
 SAVES = f"   {'size':>9} {'our model':>9} {'server':>9}  % of the cost saved; statement, "
 MUCH = 20
 """A skipped statement is named that has this part of the whole."""
-UNHELPED, SEEN, ABOUT = 10, 1000, 0.9
-"""Statements that have this part of the time together, each this one at least, and cost so much as before are told."""
+UNHELPED, SEEN, SLOW, ABOUT = 10, 1000, 0.005, 0.9
+"""Statements that have this part of the time together, each this one and so many seconds a call at least, and cost so much as
+before are told."""
 MOST_NUMBERS, SQL, LONGEST_SQL = 5, 45, 60
 """So many numbers of statements, and so many characters of one, are shown; of one that is told alone so many."""
 WIDE = 5
@@ -81,13 +82,13 @@ def _much_skipped(document: dict[str, Any]) -> list[dict[str, Any]]:
 
 
 def unhelped(document: dict[str, Any]) -> list[str]:
-    """A line about the statements without hints that cost the server about as much with the picks, where they have much of the
-    measured time together, with the one that has the most."""
+    """A line about the slow statements without hints that cost the server about as much with the picks, where they have much of
+    the measured time together, with the one that has the most."""
     whole = seconds_of(document["statements"])
     if not whole:
         return []
     others = (it for it in document["statements"] if not hinted(document) & {*it["numbers"]})
-    seen = [it for it in others if it["server_cost"] and it["seconds"] * SEEN >= whole]
+    seen = [it for it in others if it["server_cost"] and it["seconds"] >= max(SLOW * it["calls"], whole / SEEN)]
     same = [it for it in seen if it["server_cost"]["after"] > ABOUT * it["server_cost"]["before"]]
     time = seconds_of(same) or 0.0
     if time * UNHELPED < whole:

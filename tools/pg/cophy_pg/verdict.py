@@ -34,7 +34,7 @@ SQL, LONGEST = 34, 40
 """So many characters of a statement are shown, and such a name of an index has others in its column."""
 MOST_WARNINGS = 2
 """Where there are no more warnings, the summary has them, each up to what ends it."""
-WELL_JUDGED = 0.95
+WELL_JUDGED = 0.9
 """Where the statements that were priced have this part of the measured time, that isn't told."""
 
 
@@ -84,7 +84,7 @@ def _brings(document: dict[str, Any]) -> str:
     if not time:
         return f"costs {cost} less by the server's planner"
     about = f"{falls:.0f} %" if falls >= 1 else percent(falls)
-    return f"takes about {about} less of {time}, if time falls as the server's planner says that cost does (by {cost})"
+    return f"takes about {about} less than {time}, if time falls as the server's planner says that cost does (by {cost})"
 
 
 def _bound(document: dict[str, Any], count: int) -> str:
