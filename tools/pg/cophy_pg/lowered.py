@@ -235,8 +235,8 @@ def hints_told(document: dict[str, Any]) -> list[str]:
         told += f", {space(it['stored_pages'])}" if it["stored_pages"] is not None else ""
         lines += [f"  {it['statement']}", f"    {told}"]
         lines += [f"    {fails}"] if (fails := warning(it["long"])) else []
-    head = "hints by the server's planner alone, of indexes that our model doesn't know, beside those above:"
-    return [head, *lines, ""] if lines else []
+    head = "hints by the server's planner alone, of indexes that our model doesn't know, beside those above"
+    return [f"{head}; behind one run ANALYZE:", *lines, ""] if lines else []
 
 
 def hinted(document: dict[str, Any]) -> set[int]:
