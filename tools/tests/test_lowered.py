@@ -5,16 +5,21 @@ import json
 import unittest
 from html import unescape
 from typing import Any
+from unittest import mock
 
 from advised import HAS_JINJA, SCHEMA
+from cophy_text.answers import Advice
 from fixtures import COPHY, NO_HYPOPG, NO_PARSER, OverOwn
 from schema_check import faults
 
 if not NO_PARSER:
-    from cophy_pg.explain import statement_of
-    from cophy_pg.lowered import hints_shown, hints_told, lowered_in
+    from cophy_pg.explain import Statement, statement_of
+    from cophy_pg.inputs import Input
+    from cophy_pg.lowered import hints_of, hints_shown, hints_told, lowered_in
+    from cophy_pg.outcomes import Verdict
     from cophy_pg.overview import unhelped
     from cophy_pg.schema import Column, Schema, Table
+    from cophy_pg.server import ServerFault
 
 TABLES = """CREATE EXTENSION pg_stat_statements;
 CREATE ROLE another;
@@ -38,17 +43,37 @@ INDEX = 'CREATE INDEX CONCURRENTLY ON "public"."customer_user" (pg_catalog.lower
 
 @unittest.skipIf(NO_PARSER, NO_PARSER)
 class Found(unittest.TestCase):
-    def found(self, text: str) -> set[str]:
-        """What is found in a statement over tables of two texts, a number and an array each."""
+    def setUp(self) -> None:
+        """Two tables of three texts, a number and a range each."""
         tables = []
         for number, name in enumerate("uv", 1):
-            texts = {it: Column(it, it, type=kind) for it, kind in (("a", "text"), ("b", "varchar"), ("c", "bpchar"))}
-            columns = texts | {it: Column(it, it, type=kind) for it, kind in (("n", "int4"), ("r", "int4range"))}
-            own = {f"own_{name}": Column(f"own_{name}", f"own_{name}", type="text")}
-            tables.append(Table("public", name, name, columns=columns | own, oid=number))
+            kinds = {"a": "text", "b": "varchar", "c": "bpchar", "n": "int4", "r": "int4range", f"own_{name}": "text"}
+            columns = {it: Column(it, it, type=kind) for it, kind in kinds.items()}
+            tables.append(Table("public", name, name, columns=columns, oid=number))
+        self.schema = Schema(tables)
+
+    def statement(self, text: str) -> Statement:
+        """A statement over these and another table."""
         statement = statement_of(text)
         statement.numbers = {(None, "u"): 1, (None, "v"): 2, ("public", "v"): 2, (None, "w"): 3}
-        return {f"{it.table.shown}: {it.shown()}" for it in lowered_in(statement, Schema(tables))}
+        return statement
+
+    def found(self, text: str) -> set[str]:
+        """What is found in a statement."""
+        return {f"{it.table.shown}: {it.shown()}" for it in lowered_in(self.statement(text), self.schema)}
+
+    def test_where_the_server_refuses_or_the_picks_help_there_is_none(self) -> None:
+        text = "SELECT * FROM u WHERE lower(a) = $1"
+        verdict, advice = Verdict(1, Input(text), {1: 1.0}, self.statement(text), 9.0, 9.0), Advice(9)
+        server, progress = mock.Mock(), mock.Mock()
+        with mock.patch("cophy_pg.lowered.reading", side_effect=ServerFault("no")), mock.patch(
+            "cophy_pg.lowered.say"
+        ) as told:
+            self.assertEqual(hints_of(server, self.schema, advice, [verdict], progress), [])
+            told.assert_called_once_with("indexes over functions weren't asked about: no")
+            verdict.after = 8.0
+            self.assertEqual(hints_of(server, self.schema, advice, [verdict], progress), [])
+            told.assert_called_once()
 
     def test_what_is_compared_is_found(self) -> None:
         for text, *wanted in (

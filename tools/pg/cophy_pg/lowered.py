@@ -90,6 +90,7 @@ def hints_of(
             hints += [hint] * bool(hint.users)
     except ServerFault as fault:
         say(f"indexes over functions weren't asked about: {fault.shown()}")
+    hints.sort(key=lambda it: -_time([user for user, _ in it.users], found))
     return [it.document(schema) for it in hints]
 
 
