@@ -237,7 +237,7 @@ def hints_told(document: dict[str, Any]) -> list[str]:
         lines += [f"  {it['statement']}", f"    {told}"]
         lines += [f"    {fails}"] if (fails := warning(it["long"])) else []
     head = "hints by the server's planner alone, of indexes that our model doesn't know, beside those above"
-    return [f"{head}; behind one run ANALYZE:", *lines, ""] if lines else []
+    return [f"{head}; run ANALYZE once one is made:", *lines, ""] if lines else []
 
 
 def hinted(document: dict[str, Any]) -> set[int]:
