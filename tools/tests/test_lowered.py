@@ -141,7 +141,10 @@ class Told(unittest.TestCase):
         self.assertEqual(len(hints_told(document)), 11)
         for it in statements:
             it |= {"calls": 1, "server_cost": {"before": 5.0, "after": 5.0}, "sql": f"SELECT {it['numbers'][0]}"}
-        self.assertEqual(unhelped(document), ["no index here helps, 70.0 % of the time: SELECT 2"])
+        self.assertEqual(
+            unhelped(document),
+            ["no advised index helps statements with 70.0 % of the time, the most of them: SELECT 2"],
+        )
         document["hints"] = [hint | {"seconds": 0.09}]
         self.assertEqual(hints_shown(document), [])
         document["hints"], statements[1]["seconds"] = [hint | {"seconds": None}], None

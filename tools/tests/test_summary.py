@@ -192,7 +192,9 @@ class Summary(unittest.TestCase):
         lines = self.verdict()
         text = " ".join(lines)
         # 44.4 % but for two that save 10 % each.
-        falls = "takes about 24 % less than the 3.0 s measured, if time falls as the server's planner says that cost does"
+        falls = (
+            "takes about 24 % less than the 3.0 s measured, if time falls as the server's planner says that cost does"
+        )
         self.assertIn(f"Make these 3 indexes, 10.0 MB: the workload then {falls} (by 50.0 %). No indexes", text)
         bound = (
             "No indexes within this budget save more than 80.0 % by our model, by which these save 70.0 % (proved).  "

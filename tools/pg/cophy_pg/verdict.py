@@ -84,7 +84,9 @@ def _brings(document: dict[str, Any]) -> str:
     if not time:
         return f"costs {cost} less by the server's planner"
     about = f"{falls:.0f} %" if falls >= 1 else percent(falls)
-    return f"takes about {about} less than {time}, if time falls as the server's planner says that cost does (by {cost})"
+    return (
+        f"takes about {about} less than {time}, if time falls as the server's planner says that cost does (by {cost})"
+    )
 
 
 def _bound(document: dict[str, Any], count: int) -> str:
