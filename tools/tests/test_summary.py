@@ -65,8 +65,8 @@ class Summary(unittest.TestCase):
         lines, warned = lines_of(self.document), "   rests on a guess, a range whose end isn't known, and on 0.67 % of"
         head = "2 of 3 statements with 66.7 % of the 4.5 s measured; advised in 1.2 s"
         self.assertIn(head, lines[0])
-        row = r"80\.0 +88\.9  statement 1, 0\.02 s: SELECT .*; also 7; 2 loses\Z"
-        head = "        size our model    server  % of the cost saved; statement, measured time"
+        row = r"80\.0 +88\.9 +30\.0  statement 1, 0\.02 s: SELECT .*; also 7; 2 loses\Z"
+        head = "        size our model    server      time  % saved; statement, measured time"
         self.assertEqual(lines[2], head)
         create, cluster = self.document["picks"][0]["statements"]
         self.assertEqual(lines[3:5], [f"1. {create}", f"   {cluster}"])

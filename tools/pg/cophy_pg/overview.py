@@ -15,7 +15,7 @@ from cophy_pg.speed import duration
 from cophy_pg.unlimited import told, warning
 
 MOST_CHANGES = 5
-SAVES = f"   {'size':>9} {'our model':>9} {'server':>9}  % of the cost saved; statement, "
+SAVES = f"   {'size':>9} {'our model':>9} {'server':>9}"
 MUCH = 20
 """A skipped statement is named that has this part of the whole."""
 UNHELPED, SEEN, SLOW, ABOUT = 10, 1000, 0.005, 0.9
@@ -31,7 +31,8 @@ def lines_of(document: dict[str, Any]) -> list[str]:
     """The summary of a document."""
     lines = [_head(document), *(f"warning: {it}" for it in document["warnings"])]
     time = "measured time" if measured(document) == "seconds" else "calls"
-    lines += [SAVES + time] if document["picks"] else [""]
+    head = f"{SAVES}{' time':>10}" if time_of(document) else SAVES
+    lines += [f"{head}  % saved; statement, {time}"] if document["picks"] else [""]
     for at, it in enumerate(document["picks"], 1):
         lines += [*_pick(at, it, document), *_longer(it, document["picks"])]
     lines += [""] * bool(document["picks"])
@@ -212,7 +213,7 @@ def _pick(at: int, pick: dict[str, Any], document: dict[str, Any]) -> list[str]:
         "not taken": "a rule asks for it, no plan takes it",
     }[pick["outcome"]]
     lines = [f"{at}. {it}" if n == 0 else f"   {it}" for n, it in enumerate(pick["statements"])]
-    lines += [f"   {space(pick['stored_pages']):>9} {_both(pick['saves'])}  {_for(pick)}"]
+    lines += [f"   {space(pick['stored_pages']):>9} {_shares(pick)}  {_for(pick)}"]
     lines += [f"   {taken}"] if taken else []
     caveat, fails = pick.get("caveat"), warning(pick.get("long", []))
     why = f"not recommended: {caveat}" if caveat else doubt_of(pick) or warning_of(pick, document)
@@ -252,8 +253,10 @@ def _seconds(number: float) -> str:
     return f"{number:,.1f} s" if number >= 1 else f"{number:.2g} s"
 
 
-def _both(saves: dict[str, Any]) -> str:
-    return " ".join(f"{percent(saves[it]).removesuffix(' %'):>9}" for it in ("ours", "server"))
+def _shares(pick: dict[str, Any]) -> str:
+    """What a pick saves of the cost, by our model and by the server's planner, and of the measured time where that is known."""
+    found = [pick["saves"]["ours"], pick["saves"]["server"], time_saved(pick)]
+    return " ".join(f"{percent(it).removesuffix(' %'):>9}" for it in found if it is not None)
 
 
 def is_seen(change: dict[str, Any]) -> bool:
