@@ -84,7 +84,7 @@ class Isolated(OverCopy):
         found = scripts()
         names = {str(it.relative_to(ROOT)) for it in found}
         self.assertLessEqual({"tools/pg/cophy-pg", "tools/pg/measure/agree.py", "tools/tests/run"}, names)
-        self.assertEqual(len([it for it in names if it.startswith("bench/")]), 16)
+        self.assertEqual(len([it for it in names if it.startswith("bench/")]), 17)
         for it in found:
             with self.subTest(script=it.name):
                 self.assertRegex(it.read_bytes().split(b"\n")[0], rb"python3 -I\w*\Z")
