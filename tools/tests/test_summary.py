@@ -131,7 +131,8 @@ class Summary(unittest.TestCase):
         self.assertTrue(lines[-3].endswith("-U app -f /home/you/advice/indexes.sql"))
         self.assertEqual(lines[-2], "or without the password of app, as a role of your own:")
         self.assertRegex(
-            lines[-1], r"^sudo -u postgres createuser -p 5433 --role=app \w+ && psql -X -p 5433 -d .* -f /home/"
+            lines[-1],
+            r"^sudo -u postgres createuser -p 5433 --role=app \w+ && env -u PGHOST -u PGUSER psql -X -p 5433 -d .* -f /home/",
         )
         self.assertEqual([it for it in lines if "MB" in it], [lines[0], lines[at - 1]])
 

@@ -156,7 +156,8 @@ def member_of(document: dict[str, Any], script: str) -> str | None:
         return None
     ours, port = pwd.getpwuid(os.geteuid()).pw_name, ["-p", str(document.get("port") or 5432)]
     made = ["sudo", "-u", "postgres", "createuser", *port, f"--role={owner}", ours]
-    words = ["psql", "-X", *port, "-d", _plain(str(document["database"]))]
+    # What the shell was told for the advisor's role names another one.
+    words = ["env", "-u", "PGHOST", "-u", "PGUSER", "psql", "-X", *port, "-d", _plain(str(document["database"]))]
     more = " -v all=1" if not advised_of(document) else ""
     return f"{shlex.join(made)} && {shlex.join(words)}{more} -f {shlex.quote(script)}"
 

@@ -21,6 +21,7 @@ BEGIN = f"""\\set QUIET on
 \\set AUTOCOMMIT on
 \\pset tuples_only on
 \\pset format unaligned
+\\pset pager off
 SET search_path TO pg_catalog, pg_temp;
 SET standard_conforming_strings TO on;
 SET statement_timeout TO 0;
