@@ -162,7 +162,10 @@ class Advise(OverSql):
         command = f"let their owner run: psql -X {place}"
         self.assertEqual(text.splitlines()[-1], f"to make them in about 1 second, {command}")
         self.assertEqual(short.splitlines()[-3], f"psql -X {place}")
-        member = r"sudo -u postgres createuser -p 5432 --role=cophy \w+ && env -u PGHOST -u PGUSER psql -X -p 5432 -d shop -f"
+        at = f"-h {self.server.folder} -p 5432"
+        member = (
+            rf"sudo -u postgres createuser {at} --role=cophy \w+ && env -u PGHOST -u PGUSER psql -X {at} -d shop -f"
+        )
         self.assertRegex(short.splitlines()[-1], f"^{member} {self.found}/indexes.sql$")
         self._reads_alone()
 

@@ -130,10 +130,9 @@ class Summary(unittest.TestCase):
         )
         self.assertTrue(lines[-3].endswith("-U app -f /home/you/advice/indexes.sql"))
         self.assertEqual(lines[-2], "or without the password of app, as a role of your own:")
-        self.assertRegex(
-            lines[-1],
-            r"^sudo -u postgres createuser -p 5433 --role=app \w+ && env -u PGHOST -u PGUSER psql -X -p 5433 -d .* -f /home/",
-        )
+        where = "-h '/run/db server' -p 5433"
+        self.assertRegex(lines[-1], rf"^sudo -u postgres createuser {where} --role=app \w+ && env ")
+        self.assertRegex(lines[-1], rf" && env -u PGHOST -u PGUSER psql -X {where} -d .* -f /home/")
         self.assertEqual([it for it in lines if "MB" in it], [lines[0], lines[at - 1]])
 
     def test_where_some_time_isnt_known_the_verdict_is_of_the_servers_cost(self) -> None:

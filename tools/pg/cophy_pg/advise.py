@@ -23,7 +23,7 @@ from cophy_pg.curve import as_json as as_json_of_point
 from cophy_pg.folder import Folder
 from cophy_pg.folding import Folding
 from cophy_pg.included import searched_columns
-from cophy_pg.lowered import hints_of
+from cophy_pg.expression_hints import hints_of
 from cophy_pg.making import ddl_text, in_order
 from cophy_pg.outcomes import Verdict
 from cophy_pg.overview import gain_of, lines_of

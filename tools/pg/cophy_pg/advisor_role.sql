@@ -6,10 +6,11 @@
 --     psql -X -d DATABASE -v statements=counted -f advisor_role.sql
 --     psql -X -d DATABASE -v tables=granted -f advisor_role.sql
 --
--- The second form makes the extension pg_stat_statements too, in a schema of its own. The third lets the role read no table. Then grant it USAGE of the schemas and SELECT of the tables whose statements
--- are to be looked at; it is right where the tables of several applications, which mustn't read each other's, stand in one
--- database. The role has no password: \password cophy_advisor gives it one. Statements are read with the role's own path:
--- where the application has another than the database, ALTER ROLE cophy_advisor SET search_path gives it that.
+-- The second form makes the extension pg_stat_statements too, in a schema of its own. The third lets the role read no table.
+-- Then grant it USAGE of the schemas and SELECT of the tables whose statements are to be looked at; it is right where the
+-- tables of several applications, which mustn't read each other's, stand in one database. The role has no password:
+-- \password cophy_advisor gives it one. Statements are read with the role's own path: where the application has another than
+-- the database, ALTER ROLE cophy_advisor SET search_path gives it that.
 \set ON_ERROR_STOP on
 \if :{?tables} \else
     \set tables all

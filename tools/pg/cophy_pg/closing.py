@@ -137,9 +137,8 @@ def commands_of(document: dict[str, Any], script: str) -> list[str]:
 
 def command_of(document: dict[str, Any], script: str, owner: str, more: str = "") -> str:
     """What an owner of tables runs. One that is a user of this machine needs no password."""
-    who, host = _plain(owner), str(document.get("host") or "")
-    keys = [("port", "-p"), ("database", "-d")]
-    is_user = _is_user(who) and (host in HERE or host.startswith("/"))
+    who, keys = _plain(owner), [("port", "-p"), ("database", "-d")]
+    is_user = _is_user(who) and _is_here(document)
     given = [it for it in ([] if is_user else [("host", "-h")]) + keys if document.get(it[0])]
     at = [word for key, word in given for word in (word, _plain(str(document[key])))]
     if is_user:
@@ -151,15 +150,21 @@ def member_of(document: dict[str, Any], script: str) -> str | None:
     """What who doesn't know the password of the one owner may run: a role of his own on this machine, that is a member of it,
     makes them. Nothing where no password is asked for."""
     owners, host = document["owners"], str(document.get("host") or "")
-    is_here = host in HERE or host.startswith("/")
-    if len(owners) != 1 or not is_here or _is_user(owner := _plain(owners[0])):
+    if len(owners) != 1 or not _is_here(document) or _is_user(owner := _plain(owners[0])):
         return None
-    ours, port = pwd.getpwuid(os.geteuid()).pw_name, ["-p", str(document.get("port") or 5432)]
-    made = ["sudo", "-u", "postgres", "createuser", *port, f"--role={owner}", ours]
+    ours, socket = pwd.getpwuid(os.geteuid()).pw_name, ["-h", host] * host.startswith("/")
+    at = [*socket, "-p", str(document.get("port") or 5432)]
+    made = ["sudo", "-u", "postgres", "createuser", *at, f"--role={owner}", ours]
     # What the shell was told for the advisor's role names another one.
-    words = ["env", "-u", "PGHOST", "-u", "PGUSER", "psql", "-X", *port, "-d", _plain(str(document["database"]))]
+    words = ["env", "-u", "PGHOST", "-u", "PGUSER", "psql", "-X", *at, "-d", _plain(str(document["database"]))]
     more = " -v all=1" if not advised_of(document) else ""
     return f"{shlex.join(made)} && {shlex.join(words)}{more} -f {shlex.quote(script)}"
+
+
+def _is_here(document: dict[str, Any]) -> bool:
+    """Whether the server is on this machine."""
+    host = str(document.get("host") or "")
+    return host in HERE or host.startswith("/")
 
 
 def _is_user(name: str) -> bool:

@@ -8,7 +8,7 @@ from cophy_text.shown import grouped, percent, share, short, space
 from cophy_pg.choice import ASKED, UNTAKEN
 from cophy_pg.closing import advised_of, costs, last_of, recommended_of
 from cophy_pg.guesses import doubt_of, gains, is_judged, seconds_of, time_saved, warning_of
-from cophy_pg.lowered import hinted, hints_told
+from cophy_pg.expression_hints import SAME, hinted, hints_told
 from cophy_pg.recommended import KINDS, LITTLE
 from cophy_pg.rewrite.parse import without_literals
 from cophy_pg.speed import duration
@@ -18,9 +18,8 @@ MOST_CHANGES = 5
 SAVES = f"   {'size':>9} {'our model':>9} {'server':>9}"
 MUCH = 20
 """A skipped statement is named that has this part of the whole."""
-UNHELPED, SEEN, SLOW, ABOUT = 10, 1000, 0.005, 0.9
-"""Statements that have this part of the time together, each this one and so many seconds a call at least, and cost so much as
-before are told."""
+UNHELPED, SEEN, SLOW = 10, 1000, 0.005
+"""Statements that no index helps are told that have this part of the time together, each this one and so many seconds a call."""
 MOST_NUMBERS, SQL, LONGEST_SQL = 5, 45, 60
 """So many numbers of statements, and so many characters of one, are shown; of one that is told alone so many."""
 WIDE = 5
@@ -90,7 +89,7 @@ def unhelped(document: dict[str, Any]) -> list[str]:
         return []
     others = (it for it in document["statements"] if not hinted(document) & {*it["numbers"]})
     seen = [it for it in others if it["server_cost"] and it["seconds"] >= max(SLOW * it["calls"], whole / SEEN)]
-    same = [it for it in seen if it["server_cost"]["after"] > ABOUT * it["server_cost"]["before"]]
+    same = [it for it in seen if it["server_cost"]["after"] > SAME * it["server_cost"]["before"]]
     time = seconds_of(same) or 0.0
     if time * UNHELPED < whole:
         return []

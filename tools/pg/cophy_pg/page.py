@@ -15,7 +15,7 @@ from cophy_pg.closing import end_of, is_all_advised, recommended_of
 from cophy_pg.curves import curve_of
 from cophy_pg.folder import Folder
 from cophy_pg.guesses import doubt_of, warning_of
-from cophy_pg.lowered import hints_told
+from cophy_pg.expression_hints import hints_told
 from cophy_pg.overview import headline, is_seen, name_of, named
 from cophy_pg.plan_text import plan_text
 from cophy_pg.progress import say

@@ -21,7 +21,7 @@ from cophy_pg.closing import (
 )
 from cophy_pg.folder import Folder
 from cophy_pg.guesses import is_judged, seconds_of, time_saved
-from cophy_pg.lowered import hints_shown
+from cophy_pg.expression_hints import hints_shown
 from cophy_pg.overview import headline, measured, much_skipped, named, part_of, time_of, unhelped, user_of
 from cophy_pg.searches import CUT
 from cophy_pg.speed import duration
@@ -55,9 +55,8 @@ def verdict(document: dict[str, Any], kept: Folder) -> list[str]:
         script = kept.path(folder.DDL)
         commands, member = commands_of(document, script), member_of(document, script)
         lines += [f"make them{time}{', a line for each owner' * (len(commands) > 1)}:", *commands]
-        lines += (
-            [f"or without the password of {document['owners'][0]}, as a role of your own:", member] if member else []
-        )
+        if member is not None:
+            lines += [f"or without the password of {document['owners'][0]}, as a role of your own:", member]
     return lines
 
 

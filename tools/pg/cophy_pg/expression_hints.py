@@ -29,12 +29,12 @@ FUNCTIONS = frozenset(("lower", "upper"))
 MOST, SHOWN, LITTLE = 8, 2, 0.01
 """So many are asked about, those with the most time first, and so many stand in the summary, which have this part of the
 whole."""
-UNHELPED, HELPED = 0.9, 0.5
+SAME, HELPED = 0.9, 0.5
 """A statement has a hint that costs more than this part of before with the picks, and less than this part of that with the
 index."""
 
 
-class Lowered(NamedTuple):
+class ExpressionIndex(NamedTuple):
     """An index over a function of a column, which goes by PostgreSQL's name."""
 
     table: Table
@@ -55,7 +55,7 @@ class Lowered(NamedTuple):
 class Hint:
     """An index with the statements that cost less with it than with the picks alone, and what a call of each costs then."""
 
-    index: Lowered
+    index: ExpressionIndex
     users: list[tuple[Verdict, float]]
 
     def document(self, schema: Schema) -> dict[str, Any]:
@@ -94,14 +94,14 @@ def hints_of(
     return [it.document(schema) for it in hints]
 
 
-def _compared(schema: Schema, found: list[Verdict]) -> dict[Lowered, list[Verdict]]:
+def _compared(schema: Schema, found: list[Verdict]) -> dict[ExpressionIndex, list[Verdict]]:
     """The indexes that may help statements which the picks don't help, with these."""
-    compared: dict[Lowered, list[Verdict]] = {}
+    compared: dict[ExpressionIndex, list[Verdict]] = {}
     for it in found:
         if it.fault or it.statement is None or it.before is None or it.after is None:
             continue
-        if it.after > UNHELPED * it.before:
-            for index in lowered_in(it.statement, schema):
+        if it.after > SAME * it.before:
+            for index in indexes_in(it.statement, schema):
                 compared.setdefault(index, []).append(it)
     return compared
 
@@ -114,7 +114,7 @@ def _time(users: list[Verdict], found: list[Verdict]) -> float:
 
 
 def _helped(
-    server: Server, schema: Schema, advice: Advice, index: Lowered, users: list[Verdict], progress: Progress
+    server: Server, schema: Schema, advice: Advice, index: ExpressionIndex, users: list[Verdict], progress: Progress
 ) -> Iterator[tuple[Verdict, float]]:
     """Of some statements those whose plans take an index beside the picks and cost less than half then, with these costs."""
     make(server, schema, advice)
@@ -135,20 +135,20 @@ def _helped(
             yield it, cost
 
 
-def lowered_in(statement: Statement, schema: Schema) -> set[Lowered]:
+def indexes_in(statement: Statement, schema: Schema) -> set[ExpressionIndex]:
     """The functions of columns that a statement compares by `=`, IN or ANY, so that an index over one may serve it. Where a
     function of somebody else is meant, no plan takes the index."""
     by_number = {it.oid: it for it in schema.tables.values()}
     common = {(None, it.ctename) for it in nodes_of(statement.tree) if isinstance(it, ast.CommonTableExpr)}
     tables = {it: by_number[at] for it, at in statement.numbers.items() if at in by_number and it not in common}
-    found = set[Lowered]()
+    found = set[ExpressionIndex]()
     for query in nodes_of(statement.tree):
         if isinstance(query, ast.SelectStmt):
             parts = [*_parts(query.fromClause or ())]
             sources = {_name(it): tables[key] for it in parts if (key := _key(it)) in tables}
             conditions = [query.whereClause, *(it.quals for it in parts if isinstance(it, ast.JoinExpr))]
             compared = [side for it in conditions for one in _joined(it) for side in _sides(one)]
-            found |= {it for side, other in compared if (it := _lowered(side, other, sources)) is not None}
+            found |= {it for side, other in compared if (it := _index_of(side, other, sources)) is not None}
     return found
 
 
@@ -189,7 +189,7 @@ def _sides(node: Any) -> list[tuple[Any, Any]]:
     return [(node.lexpr, node.rexpr)] if node.kind in (A_Expr_Kind.AEXPR_IN, A_Expr_Kind.AEXPR_OP_ANY) else []
 
 
-def _lowered(side: Any, other: Any, sources: dict[str, Table]) -> Lowered | None:
+def _index_of(side: Any, other: Any, sources: dict[str, Table]) -> ExpressionIndex | None:
     """A function of one column of a text, where the other side has no column of its table."""
     if not isinstance(side, ast.FuncCall) or len(side.args or ()) != 1:
         return None
@@ -201,7 +201,7 @@ def _lowered(side: Any, other: Any, sources: dict[str, Table]) -> Lowered | None
         return None
     if any(_source(it, sources)[0] == name for it in nodes_of(other)):
         return None
-    return Lowered(sources[name], function, column)
+    return ExpressionIndex(sources[name], function, column)
 
 
 def _uncast(node: Any) -> Any:

@@ -15,7 +15,7 @@ from schema_check import faults
 if not NO_PARSER:
     from cophy_pg.explain import Statement, statement_of
     from cophy_pg.inputs import Input
-    from cophy_pg.lowered import hints_of, hints_shown, hints_told, lowered_in
+    from cophy_pg.expression_hints import hints_of, hints_shown, hints_told, indexes_in
     from cophy_pg.outcomes import Verdict
     from cophy_pg.overview import unhelped
     from cophy_pg.schema import Column, Schema, Table
@@ -60,14 +60,14 @@ class Found(unittest.TestCase):
 
     def found(self, text: str) -> set[str]:
         """What is found in a statement."""
-        return {f"{it.table.shown}: {it.shown()}" for it in lowered_in(self.statement(text), self.schema)}
+        return {f"{it.table.shown}: {it.shown()}" for it in indexes_in(self.statement(text), self.schema)}
 
     def test_where_the_server_refuses_or_the_picks_help_there_is_none(self) -> None:
         text = "SELECT * FROM u WHERE lower(a) = $1"
         verdict, advice = Verdict(1, Input(text), {1: 1.0}, self.statement(text), 9.0, 9.0), Advice(9)
         server, progress = mock.Mock(), mock.Mock()
-        with mock.patch("cophy_pg.lowered.reading", side_effect=ServerFault("no")), mock.patch(
-            "cophy_pg.lowered.say"
+        with mock.patch("cophy_pg.expression_hints.reading", side_effect=ServerFault("no")), mock.patch(
+            "cophy_pg.expression_hints.say"
         ) as told:
             self.assertEqual(hints_of(server, self.schema, advice, [verdict], progress), [])
             told.assert_called_once_with("indexes over functions weren't asked about: no")
