@@ -60,6 +60,12 @@ class Advise(OverSql):
         self.assertEqual({it["outcome"] for it in picks.values()}, {"taken"})
         total = picks["sales_orders(total)"]
         self.assertEqual([*picks][0], "sales_orders(total)")
+        # What isn't recommended has the last numbers, so that what is printed has no gaps.
+        places, caveats = zip(*((it["place"], it["caveat"] is not None) for it in found["picks"]))
+        self.assertEqual((places, caveats), ((*range(1, len(places) + 1),), (*sorted(caveats),)))
+        script = (self.kept / "indexes.sql").read_text()
+        marked = re.findall(r"(?m)^-- (\d+)\. .*: not recommended", script)
+        self.assertEqual([*map(int, marked)], [at for at, it in zip(places, caveats) if it])
         shown = "SELECT id FROM sales.orders WHERE total = 17.75 ORDER BY id"
         self.assertEqual([(it["numbers"], it["sql"], it["calls"]) for it in total["changes"]], [([1], shown, 40)])
         self.assertGreater(min(total["saves"]["ours"], total["saves"]["server"]), 20)
@@ -71,7 +77,7 @@ class Advise(OverSql):
         self.assertEqual(found["server_cost"]["statements"], 4)
         second = found["statements"][1]
         self.assertEqual((second["numbers"], second["line"], second["calls"]), ([1], 3, 40))
-        self.assertEqual(second["picks"], [total["number"]])
+        self.assertEqual((second["picks"], total["place"]), ([1], 1))
         self.assertEqual(found["statements"][4]["not_explained"], "42883 a function or an operator isn't there")
         self.assertEqual(
             self.server.value("SELECT count(*) FROM pg_indexes WHERE indexname LIKE '%total_idx'", "shop"), "0"

@@ -97,6 +97,7 @@ def document(folder: str) -> dict[str, Any]:
         "owners": ["app"],
         "picks": [
             {
+                "place": 1,
                 "number": 4,
                 "table": "t",
                 "columns": ["b"],
@@ -129,7 +130,7 @@ def document(folder: str) -> dict[str, Any]:
             }
         ],
         "statements": [
-            statement(1, ODD, 9, 100.0, [4]),
+            statement(1, ODD, 9, 100.0, [1]),
             statement(2, "UPDATE t SET b = 1 WHERE " + "x" * 300 + " = 2", 1, 900.0, []),
             skipped,
         ],

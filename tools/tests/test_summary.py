@@ -207,7 +207,8 @@ class Summary(unittest.TestCase):
         self.assertIn(missing, " ".join(self.verdict()))
         self.document["picks"] = picks
         at = lines.index("2 more aren't recommended (10.0 MB; psql -v all=1 makes them too)")
-        self.assertEqual([it[:3] for it in lines[at - 4 : at]], [" 1.", " 3.", " 5.", ""])
+        rows = [(it[:3], it.split()[4][:2]) for it in lines[at - 4 : at - 1]]
+        self.assertEqual((rows, lines[at - 1]), ([(" 1.", "t0"), (" 2.", "t2"), (" 3.", "t4")], ""))
         self.assertNotIn("it saves 0.4 %", text)
         for line in (
             'then superfluous, so may be dropped once these are in use: "public"."old"',
@@ -330,13 +331,13 @@ class Summary(unittest.TestCase):
         self.five()
         for at, it in enumerate(self.document["picks"]):
             it["owner"] = "app" if at % 2 else "root"
-        self.document["picks"][4]["caveat"] = "it saves 0.4 %"
+        self.document["picks"][0]["caveat"] = "it saves 0.4 %"
         self.document |= {"owners": ["root", "app", "none"], "host": "localhost", "port": 5432}
         self.assertTrue(self.verdict()[-3].endswith(", a line for each owner:"))
         place = "-p 5432 -d 'shop & <b>'"
         wanted = [
-            f"sudo -u root psql -X {place} -v without=2,4,5 < /home/you/advice/indexes.sql",
-            f"psql -X -h localhost {place} -U app -v without=1,3,5 -f /home/you/advice/indexes.sql",
+            f"sudo -u root psql -X {place} -v without=1,3,5 < /home/you/advice/indexes.sql",
+            f"psql -X -h localhost {place} -U app -v without=2,4,5 -f /home/you/advice/indexes.sql",
         ]
         self.assertEqual(self.verdict()[-2:], wanted)
 

@@ -42,6 +42,13 @@ def advised_of(document: dict[str, Any]) -> list[dict[str, Any]]:
     return [it for it in document["picks"] if not it.get("caveat")]
 
 
+def rows_of(document: dict[str, Any]) -> list[tuple[int, dict[str, Any]]]:
+    """All that the script makes with its numbers, which are the same wherever they stand: the picks that are recommended, and
+    then the others."""
+    others = [it for it in document["picks"] if it.get("caveat")]
+    return [*enumerate([*advised_of(document), *others], 1)]
+
+
 def time_falls(document: dict[str, Any]) -> float:
     """How many percent of the measured time the recommended picks save, if each statement's falls as the server says that its
     cost does. One whose cost the server doesn't say saves nothing, and what isn't recommended is taken off."""
@@ -121,7 +128,7 @@ def next_of(document: dict[str, Any], script: str) -> list[str]:
 
 def commands_of(document: dict[str, Any], script: str) -> list[str]:
     """What the owners of the tables run, each what is of his; what isn't recommended where nothing is."""
-    owners, picks = document["owners"], [*enumerate(document["picks"], 1)]
+    owners, picks = document["owners"], rows_of(document)
     advised = [at for at, it in picks if not it.get("caveat")] or [at for at, _ in picks]
     if len(owners) < 2:
         everything = " -v all=1" if all(it.get("caveat") for _, it in picks) else ""

@@ -6,7 +6,7 @@ from typing import Any
 from cophy_text.answers import counted
 from cophy_text.shown import grouped, percent, share, short, space
 from cophy_pg.choice import ASKED, UNTAKEN
-from cophy_pg.closing import advised_of, costs, last_of, recommended_of
+from cophy_pg.closing import advised_of, costs, last_of, recommended_of, rows_of
 from cophy_pg.guesses import doubt_of, gains, is_judged, seconds_of, time_saved, warning_of
 from cophy_pg.expression_hints import SAME, hinted, hints_told
 from cophy_pg.recommended import KINDS, LITTLE
@@ -32,8 +32,8 @@ def lines_of(document: dict[str, Any]) -> list[str]:
     time = "measured time" if measured(document) == "seconds" else "calls"
     head = f"{SAVES}{' time':>10}" if time_of(document) else SAVES
     lines += [f"{head}  % saved; statement, {time}"] if document["picks"] else [""]
-    for at, it in enumerate(document["picks"], 1):
-        lines += [*_pick(at, it, document), *_longer(it, document["picks"])]
+    for at, it in rows_of(document):
+        lines += [*_pick(at, it, document), *_longer(it, document)]
     lines += [""] * bool(document["picks"])
     lines += [*_hints(document), *hints_told(document)]
     lines += [told(long), ""] if (long := document.get("long_columns", [])) else []
@@ -47,12 +47,12 @@ def lines_of(document: dict[str, Any]) -> list[str]:
     return [*lines, *costs(document), *last_of(document)]
 
 
-def _longer(pick: dict[str, Any], picks: list[dict[str, Any]]) -> list[str]:
+def _longer(pick: dict[str, Any], document: dict[str, Any]) -> list[str]:
     """The picks that serve what this one serves, but are larger."""
     columns = pick["columns"]
     found = [
         at
-        for at, it in enumerate(picks, 1)
+        for at, it in rows_of(document)
         if it["table"] == pick["table"] and it["columns"] != columns and it["columns"][: len(columns)] == columns
     ]
     return [f"   {at} begins with its columns" for at in found]
@@ -111,19 +111,19 @@ def _skipped(document: dict[str, Any]) -> list[str]:
 
 def _hints(document: dict[str, Any]) -> list[str]:
     """Options that make the advice smaller, where it has what they leave out, and how one index is left out."""
-    options, picks, lines = document["options"], document["picks"], list[str]()
-    little = [at for at, it in enumerate(picks, 1) if max(it["saves"].get(key) or 0 for key in KINDS) < LITTLE]
+    options, picks, lines = document["options"], dict(rows_of(document)), list[str]()
+    little = [at for at, it in picks.items() if max(it["saves"].get(key) or 0 for key in KINDS) < LITTLE]
     if little and options["min_saving"] < LITTLE:
-        size = space(sum(picks[at - 1]["stored_pages"] for at in little))
+        size = space(sum(picks[at]["stored_pages"] for at in little))
         save, take = ("saves", "takes") if len(little) == 1 else ("save", "take")
         what = f"{_numbers(little)} {save} less than {LITTLE} % and {take} {size}"
         lines += [f"{what}: --min-saving {LITTLE} leaves such out"]
-    wide = [at for at, it in enumerate(picks, 1) if len(it["columns"]) >= WIDE]
+    wide = [at for at, it in picks.items() if len(it["columns"]) >= WIDE]
     if wide and not options["include"]:
         have = "has" if len(wide) == 1 else "have"
         what = f"{_numbers(wide)} {have} {WIDE} columns or more"
         lines += [f"{what}: --include puts what is only read behind INCLUDE"]
-    unadvised = [at for at, it in enumerate(picks, 1) if it.get("caveat")]
+    unadvised = [at for at, it in picks.items() if it.get("caveat")]
     if unadvised:
         lines += [f"{_numbers(unadvised)} not recommended: the script makes such with -v all=1 alone"]
     if len(picks) > 1:

@@ -11,7 +11,7 @@ from cophy_text import files
 from cophy_text.answers import counted
 from cophy_text.shown import grouped, percent, share, short, space
 from cophy_pg import folder
-from cophy_pg.closing import end_of, is_all_advised, recommended_of
+from cophy_pg.closing import end_of, is_all_advised, recommended_of, rows_of
 from cophy_pg.curves import curve_of
 from cophy_pg.folder import Folder
 from cophy_pg.guesses import doubt_of, warning_of
@@ -95,7 +95,7 @@ def page_text(document: dict[str, Any], plans: dict[str, Any], curve: dict[str, 
         headline=headline(document),
         found=recommended_of(document),
         some=not is_all_advised(document),
-        picks=[_pick(at, it, document) for at, it in enumerate(document["picks"], 1)],
+        picks=[_pick(at, it, document) for at, it in rows_of(document)],
         left_out=[{"index": named(it), "pages": it["pages"], "why": it["why"]} for it in document["left_out"]],
         statements=_statements(document, plans),
         skipped=_skipped(document),

@@ -57,6 +57,8 @@ class Result:
         """The document."""
         none, kept, all_ = self.prices
         count, before, after = self.judged.sums()
+        picks = self.plain_picks()
+        places = {it["number"]: it["place"] for it in picks}
         return {
             "version": 1,
             "tools": VERSION,
@@ -78,10 +80,10 @@ class Result:
             "calls_divided_by": self.workload.divisor,
             **self.told,
             "functions": self.judged.functions,
-            "picks": [it | {"caveat": self._caveat(it["number"])} for it in self.plain_picks()],
+            "picks": [it | {"caveat": self._caveat(it["number"])} for it in picks],
             "left_out": [{**_index(it), "why": why} for it, why in self.choice.left_out],
             "hints": self.hints,
-            "statements": [self._statement(at, it) for at, it in enumerate(self.workload.records, 1)],
+            "statements": [self._statement(at, it, places) for at, it in enumerate(self.workload.records, 1)],
             "seconds": {name: round(it, 3) for name, it in self.seconds.items()},
         }
 
@@ -122,7 +124,8 @@ class Result:
         return writes_of(advised, [text for text, _ in self.workload.statements], calls, self.indexes)
 
     def plain_picks(self) -> list[dict[str, Any]]:
-        """The picks, those that save the most first, by names that are given in this order."""
+        """The picks, those that are recommended first, and of each those that save the most, by names that are given in this
+        order."""
         outcomes = {it.pick.number: it for it in self.judged.outcomes}
         listed: list[dict[str, Any]] = [
             _index(it.pick)
@@ -136,7 +139,10 @@ class Result:
             for it in self.reasons
         ]
         taken, picks = taken_names(self.schema), {it.pick.number: it.pick for it in self.reasons}
-        return [it | self._made(picks[it["number"]], outcomes, taken) for it in sorted(listed, key=place_of)]
+        ordered = sorted(listed, key=lambda it: (self._caveat(it["number"]) is not None, *place_of(it)))
+        return [
+            {"place": at} | it | self._made(picks[it["number"]], outcomes, taken) for at, it in enumerate(ordered, 1)
+        ]
 
     def _made(self, pick: Candidate, outcomes: dict[int, Outcome], taken: set[str]) -> dict[str, Any]:
         """How a pick is made, and what there is to say of that."""
@@ -224,7 +230,7 @@ class Result:
             found[tuple(it.written)] = found.get(tuple(it.written), 0.0) + (it.input.seconds or 0.0) * part
         return found
 
-    def _statement(self, at: int, record: Record) -> dict[str, Any]:
+    def _statement(self, at: int, record: Record, places: dict[int, int]) -> dict[str, Any]:
         given = record.input
         verdict = next((it for it in self.judged.verdicts if it.number == at), None)
         return {
@@ -241,7 +247,7 @@ class Result:
             "cost": self._ours(record) if record.numbers else None,
             "server_cost": _both(verdict.before, verdict.after) if verdict else None,
             "not_explained": (verdict.fault or None) if verdict else None,
-            "picks": verdict.taken if verdict else [],
+            "picks": [places[it] for it in verdict.taken if it in places] if verdict else [],
         }
 
     def _ours(self, record: Record) -> dict[str, int]:

@@ -17,6 +17,7 @@ from cophy_pg.closing import (
     member_of,
     proof_of,
     recommended_of,
+    rows_of,
     time_falls,
 )
 from cophy_pg.folder import Folder
@@ -40,7 +41,7 @@ WELL_JUDGED = 0.9
 
 def verdict(document: dict[str, Any], kept: Folder) -> list[str]:
     """The summary of a document whose files are in a folder."""
-    picks = [*enumerate(document["picks"], 1)]
+    picks = rows_of(document)
     advised = [it for it in picks if not it[1].get("caveat")]
     sentence = UNIT.sub(KEPT, _sentence(document, len(advised)))
     lines = [it.replace(KEPT, " ") for it in textwrap.wrap(sentence, WIDTH, break_on_hyphens=False)]
