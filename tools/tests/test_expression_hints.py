@@ -2,6 +2,8 @@
 from __future__ import annotations
 
 import json
+import re
+import shlex
 import unittest
 from html import unescape
 from typing import Any
@@ -9,13 +11,14 @@ from unittest import mock
 
 from advised import HAS_JINJA, SCHEMA
 from cophy_text.answers import Advice
-from fixtures import COPHY, NO_HYPOPG, NO_PARSER, OverOwn
+from fixtures import NO_HYPOPG, NO_PARSER, STAND_IN, OverOwn
 from schema_check import faults
 
 if not NO_PARSER:
     from cophy_pg.explain import Statement, statement_of
     from cophy_pg.inputs import Input
-    from cophy_pg.expression_hints import hints_of, hints_shown, hints_told, indexes_in
+    from cophy_pg.expression_hints import ExpressionIndex, Hint, hints_of, indexes_in
+    from cophy_pg.hints import documents_of, hints_shown, hints_told
     from cophy_pg.outcomes import Verdict
     from cophy_pg.overview import unhelped
     from cophy_pg.schema import Column, Schema, Table
@@ -38,7 +41,10 @@ SELECT * FROM customer_user WHERE lower(kind) = 'k7';
 SELECT * FROM small WHERE lower(name) = 'name 7';
 SELECT id, filler FROM customer_user WHERE email = 'mail 7';
 """
-INDEX = 'CREATE INDEX CONCURRENTLY ON "public"."customer_user" (pg_catalog.lower("login"));'
+INDEX = (
+    'CREATE INDEX CONCURRENTLY "customer_user_lower_login_idx" ON "public"."customer_user" (pg_catalog.lower("login"));'
+)
+ANALYZE = 'ANALYZE "public"."customer_user";'
 
 
 @unittest.skipIf(NO_PARSER, NO_PARSER)
@@ -60,7 +66,7 @@ class Found(unittest.TestCase):
 
     def found(self, text: str) -> set[str]:
         """What is found in a statement."""
-        return {f"{it.table.shown}: {it.shown()}" for it in indexes_in(self.statement(text), self.schema)}
+        return {f"{it.table.shown}: {it.function}({it.column})" for it in indexes_in(self.statement(text), self.schema)}
 
     def test_where_the_server_refuses_or_the_picks_help_there_is_none(self) -> None:
         text = "SELECT * FROM u WHERE lower(a) = $1"
@@ -74,6 +80,34 @@ class Found(unittest.TestCase):
             verdict.after = 8.0
             self.assertEqual(hints_of(server, self.schema, advice, [verdict], progress), [])
             told.assert_called_once()
+
+    def test_those_are_made_that_fit_into_what_is_left_and_serve_other_statements(self) -> None:
+        statements = [Verdict(at, Input("SELECT", 2, 1.0), {at: 1.0}, None, 50.0, 50.0) for at in range(1, 5)]
+        u, v = self.schema.tables.values()
+
+        def found(left: int, *hints: Hint) -> list[tuple[str, float, int | None, str | None]]:
+            """What is said of hints whose indexes take 100 pages each, where all statements cost 1000 and took 8 s."""
+            with mock.patch("cophy_pg.hints.stored_pages", return_value=100):
+                told = [it for it, _ in documents_of(hints, self.schema, 1000.0, 8.0, left)]
+            return [(it["columns"][0], it["saves"]["planned"], it["missing_pages"], it["why_not"]) for it in told]
+
+        # A statement that costs 5 of 50 saves 0.9 s of its second, and 90 of the cost by two calls.
+        first = Hint(ExpressionIndex(u, "lower", "a"), [(statements[0], 5.0)])
+        both = Hint(ExpressionIndex(u, "upper", "b"), [(it, 5.0) for it in statements[1:3]])
+        same = Hint(ExpressionIndex(v, "lower", "b"), [(statements[1], 10.0)])
+        little = Hint(ExpressionIndex(v, "upper", "b"), [(statements[3], 48.0)])
+        self.assertEqual(
+            found(210, first, both, same, little),
+            [("upper(b)", 22.5, 0, None), ("lower(a)", 11.25, 0, None), ("upper(b)", 0.5, 90, "it saves 0.5 %")],
+        )
+        much = "it takes 0.4 MB more than the budget leaves"
+        self.assertEqual(found(150, first, both), [("upper(b)", 22.5, 0, None), ("lower(a)", 11.25, 50, much)])
+        # What isn't made serves no statement.
+        self.assertEqual([it[0] for it in found(50, both, same)], ["upper(b)", "lower(b)"])
+        (said,) = documents_of([first], self.schema, 1000.0, None, 9)
+        self.assertEqual(said[0]["saves"], {"server": 9.0, "planned": None})
+        with mock.patch("cophy_pg.hints.likely", return_value=["a"]):
+            self.assertEqual(found(999, first)[0][3], "an INSERT of more than 2,704 bytes in a would fail")
 
     def test_what_is_compared_is_found(self) -> None:
         for text, *wanted in (
@@ -127,38 +161,45 @@ class Found(unittest.TestCase):
 
 @unittest.skipIf(NO_PARSER, NO_PARSER)
 class Told(unittest.TestCase):
-    def test_those_with_much_of_the_time_stand_in_the_summary(self) -> None:
-        hint = {"statement": "CREATE INDEX;", "statements": [1], "seconds": 3.0, "before": 200.0, "after": 10.0}
-        hint |= {"stored_pages": 256, "long": []}
+    def test_those_that_take_too_much_stand_in_the_summary(self) -> None:
+        change = {"numbers": [1], "sql": "SELECT 1", "calls": 9, "seconds": 3.0}
+        hint: dict[str, Any] = {"table": "t", "columns": ["lower(a)"], "statements": ["CREATE INDEX;", "ANALYZE;"]}
+        hint |= {
+            "saves": {"server": 9.0, "planned": 28.5},
+            "stored_pages": 256,
+            "missing_pages": 128,
+            "changes": [change],
+        }
+        hint |= {"why_not": "it takes 1.0 MB more than the budget leaves"}
         statements: list[dict[str, Any]] = [{"seconds": it, "numbers": [at]} for at, it in enumerate((3.0, 7.0), 1)]
-        document: dict[str, Any] = {"hints": [hint], "statements": statements, "server_cost": {"after": 400.0}}
-        line = "a hint by the server's planner alone: 30.0 % of the time costs 95.0 % less with CREATE INDEX;"
-        self.assertEqual(hints_shown(document), [line])
-        told = ["  CREATE INDEX;", "    30.0 % of the time costs 95.0 % less, statement 1, 2.0 MB"]
-        self.assertEqual(hints_told(document)[1:], [*told, ""])
-        document["hints"] = [hint | {"seconds": it, "long": ["t"]} for it in (3.0, 2.0, 1.0)]
-        self.assertEqual(len(hints_shown(document)), 2)
-        self.assertEqual(len(hints_told(document)), 11)
+        document: dict[str, Any] = {"hints": [hint], "statements": statements, "picks": []}
+        said = "t(lower(a)) saves 28.5 % of the time, but it takes 1.0 MB more than the budget leaves"
+        self.assertEqual(hints_shown(document), [f"a hint by the server's planner alone: {said}"])
+        self.assertEqual(hints_told(document)[1:], ["  CREATE INDEX;", "  ANALYZE;", f"    2.0 MB; {said}", ""])
         for it in statements:
             it |= {"calls": 1, "server_cost": {"before": 5.0, "after": 5.0}, "sql": f"SELECT {it['numbers'][0]}"}
         self.assertEqual(
             unhelped(document),
             ["no advised index helps statements with 70.0 % of the time, the most of them: SELECT 2"],
         )
-        document["hints"] = [hint | {"seconds": 0.09}]
+        document["hints"] = [hint | {"saves": {"server": it, "planned": None}} for it in (9.0, 8.0, 7.0)]
+        self.assertEqual(len(hints_shown(document)), 2)
+        self.assertEqual(len(hints_told(document)), 11)
+        self.assertIn("t(lower(a)) saves 9.0 % of the cost", hints_shown(document)[0])
+        document["hints"] = [hint | {"saves": {"server": 9.0, "planned": 0.9}}]
         self.assertEqual(hints_shown(document), [])
-        document["hints"], statements[1]["seconds"] = [hint | {"seconds": None}], None
-        self.assertIn("50.0 % of the cost costs 95.0 % less", hints_shown(document)[0])
+        document["hints"] = [hint | {"why_not": None}]
+        self.assertEqual((hints_shown(document), hints_told(document)), ([], []))
         self.assertEqual((hints_shown({}), hints_told({})), ([], []))
 
 
 @unittest.skipIf(NO_HYPOPG, NO_HYPOPG)
-@unittest.skipUnless(COPHY.exists(), "the program isn't built")
 class Advised(OverOwn):
-    database, content, given = "tickets", TABLES, {"COPHY_PROGRAM": str(COPHY)}
+    database, content, given = "tickets", TABLES, {"COPHY_PROGRAM": str(STAND_IN)}
 
-    def advise(self, *more: str) -> dict[str, Any]:
-        self.call("advise", "--budget", "20MB", "--folder", str(self.folder / "found"), "--no-curve", *more)
+    def advise(self, *more: str, budget: str = "20MB", status: int = 0) -> dict[str, Any]:
+        words = ("advise", "--budget", budget, "--folder", str(self.folder / "found"), "--no-curve", *more)
+        self.call(*words, status=status)
         found: dict[str, Any] = json.loads(self.told("advice.json"))
         self.assertEqual([*faults(found, SCHEMA, SCHEMA)], [])
         return found
@@ -166,39 +207,145 @@ class Advised(OverOwn):
     def told(self, name: str) -> str:
         return (self.folder / "found" / name).read_text()
 
-    def test_an_index_that_the_planner_takes_is_told_with_its_part_of_the_time(self) -> None:
+    def sql(self) -> tuple[str, str]:
+        """The words that name the file of the queries."""
+        (self.folder / "q.sql").write_text(QUERIES)
+        return "--sql", str(self.folder / "q.sql")
+
+    def test_an_index_that_the_planner_takes_is_a_row_and_a_statement_of_the_script(self) -> None:
         self.server.psql("SELECT pg_stat_statements_reset()", self.database)
         self.server.psql(QUERIES * 9, self.database)
         found = self.advise()
-        (hint,) = found["hints"]
-        self.assertEqual(
-            (hint["statement"], hint["table"], hint["expression"]), (INDEX, "customer_user", "lower(login)")
+        (hint,), picks = found["hints"], found["picks"]
+        self.assertEqual((hint["table"], hint["columns"], hint["why_not"]), ("customer_user", ["lower(login)"], None))
+        self.assertEqual((hint["statements"], hint["owner"]), ([INDEX, ANALYZE], "cophy"))
+        advised = sum(it["caveat"] is None for it in picks)
+        self.assertEqual(hint["place"], advised + 1)
+        self.assertEqual(sorted([hint["place"], *(it["place"] for it in picks)]), [*range(1, len(picks) + 2)])
+        (change,) = hint["changes"]
+        self.assertTrue(change["sql"].startswith("SELECT * FROM customer_user WHERE lower(login) = lower("), change)
+        saved, part = hint["saves"]["planned"], 100 * change["seconds"] / sum(
+            it["seconds"] for it in found["statements"]
         )
-        of_hint = [it for it in found["statements"] if {*it["numbers"]} & {*hint["statements"]}]
-        self.assertEqual([it["sql"] for it in of_hint], ["SELECT * FROM customer_user WHERE lower(login) = lower($1)"])
-        self.assertEqual((of_hint[0]["calls"], hint["seconds"]), (9, of_hint[0]["seconds"]))
-        self.assertLess(hint["after"], hint["before"] / 2)
-        part = 100 * hint["seconds"] / sum(it["seconds"] for it in found["statements"])
-        self.assertGreater(part, 5)
-        for name in ("summary.txt", "details.txt"):
-            text = self.told(name)
-            self.assertEqual((text.count(INDEX), text.count(f"{part:,.1f} % of the time costs ")), (1, 1), text)
+        self.assertGreater(saved, part / 2)
+        self.assertLessEqual(saved, part)
+        summary, details, script = map(self.told, ("summary.txt", "details.txt", "indexes.sql"))
+        row = rf"(?m)^ {advised + 1}\. +[\d.]+ +\*{saved:5.1f} %  customer_user\(lower\(login\)\) "
+        self.assertRegex(summary, row)
+        self.assertEqual(summary.count("* judged by the server's planner alone: outside our model, its bound"), 1)
+        self.assertRegex(summary, rf"\AMake these {advised + 1} indexes" if advised else r"\AMake this index")
+        self.assertRegex(details, rf"(?m)^{advised + 1}\. {re.escape(INDEX)}\n   {re.escape(ANALYZE)}\n +[\d.]+ MB +- ")
+        self.assertIn(
+            f"-- {advised + 1}. customer_user(lower(login)): saves {saved:.1f} % of the time by the server's", script
+        )
+        self.assertLess(script.index(f"--   {INDEX}"), script.index("\n\n"))
+        if HAS_JINJA:
+            self.assertIn(f"{advised + 1}. customer_user(lower(login))", unescape(self.told("report.html")))
+            self.assertIn(INDEX, unescape(self.told("report.html")))
+        self.assertFalse([it for it in summary.split("\n") if "helps" in it and "lower(login)" in it])
+
+    def test_one_that_takes_too_much_stays_a_hint_that_says_how_much(self) -> None:
+        found = self.advise(*self.sql(), budget="0.5MB", status=3)
+        (hint,), left = found["hints"], 64 - found["recommended"]["stored_pages"]
+        self.assertEqual((found["picks"], hint["place"]), ([], None))
+        self.assertEqual(hint["missing_pages"], hint["stored_pages"] - left)
+        much = f"but it takes {hint['missing_pages'] / 128:.1f} MB more than the budget leaves"
+        self.assertIn(much, self.told("summary.txt"))
+        self.assertIn(INDEX, self.told("details.txt"))
+        self.assertNotIn("lower(", self.told("indexes.sql"))
         if HAS_JINJA:
             self.assertIn(INDEX, unescape(self.told("report.html")))
-        self.assertNotIn("lower(login)", self.told("indexes.sql"))
-        self.assertFalse([it for it in self.told("summary.txt").split("\n") if "helps" in it and "lower(login)" in it])
 
-    def test_once_it_is_made_it_is_told_no_more_and_another_is_when_it_is_the_servers_own_function(self) -> None:
-        (self.folder / "q.sql").write_text(QUERIES)
-        sql = ("--sql", str(self.folder / "q.sql"))
-        self.assertEqual([it["statement"] for it in self.advise(*sql)["hints"]], [INDEX])
-        self.assertIn("of the cost costs ", self.told("summary.txt"))
-        made = INDEX.replace(" ON", " made ON", 1)
-        self.server.psql(f"{made} ALTER FUNCTION public.lower(char) RENAME TO other", self.database)
-        back = "DROP INDEX made; ALTER FUNCTION public.other(char) RENAME TO lower"
+    def test_the_script_makes_it_counts_its_values_and_takes_it_back(self) -> None:
+        self.advise(*self.sql())
+        script = self.told("indexes.sql")
+        (step,) = [it for it in self.told("commands.txt").splitlines() if it.startswith("cophy-pg ddl ")]
+        self.assertIn(" --also 'customer_user(lower(login))'", step)
+        again = self.call(*shlex.split(step)[1:]).stdout
+        self.assertEqual(re.sub("(?m)^-- .*", "", again), re.sub("(?m)^-- .*", "", script))
+        self.run_script(script)
+        counted = "SELECT n_distinct FROM pg_stats WHERE tablename = 'customer_user_lower_login_idx'"
+        self.assertEqual(self.server.value(counted, self.database), "-1")
+        self.assertIn("it is there already", self.run_script(script))
+        (self.folder / "found").rename(self.folder / "before")
+        # Once it is there it is told no more, and another is when it is the server's own function.
+        self.server.psql("ALTER FUNCTION public.lower(char) RENAME TO other", self.database)
+        back = "ALTER FUNCTION public.other(char) RENAME TO lower"
         self.addCleanup(self.server.psql, back, self.database)
-        self.assertEqual([it["expression"] for it in self.advise(*sql)["hints"]], ["lower(kind)"])
-        self.assertNotIn("lower(login)", self.told("summary.txt"))
+        self.assertEqual([it["columns"] for it in self.advise(*self.sql())["hints"]], [["lower(kind)"]])
+        ran = self.call("changes", *self.in_folder("before", "found"), "--json", status=3)
+        indexes = json.loads(ran.stdout)["indexes"]
+        self.assertEqual(
+            [[it["index"] for it in indexes[kind] if "lower" in it["index"]] for kind in ("made", "new", "gone")],
+            [["customer_user(lower(login))"], ["customer_user(lower(kind))"], []],
+        )
+        self.assertIn("_lower_login_idx is dropped", self.run_script(script, "-v", "undo=1"))
+        left = "SELECT count(*) FROM pg_class WHERE relname ~ 'lower_login'"
+        self.assertEqual(self.server.value(left, self.database), "0")
+
+
+@unittest.skipIf(NO_HYPOPG, NO_HYPOPG)
+class Made(OverOwn):
+    """Scripts that make indexes over functions, on tables of all kinds."""
+
+    database = "made"
+    content = """CREATE TABLE plain ("Name" varchar(80), "order" text, c char(5));
+    INSERT INTO plain SELECT 'N' || i, 'o' || i, 'c' FROM generate_series(1, 3000) i;
+    CREATE TABLE parted (kind int, note text) PARTITION BY LIST (kind);
+    CREATE TABLE one PARTITION OF parted FOR VALUES IN (1); CREATE TABLE two PARTITION OF parted FOR VALUES IN (2);
+    CREATE TABLE parent (id int, a text); CREATE TABLE child () INHERITS (parent);
+    CREATE FUNCTION public.lower(char) RETURNS text LANGUAGE sql IMMUTABLE AS $$ SELECT 'k' $$;
+    ANALYZE;
+    """
+    given = {"COPHY_PROGRAM": str(STAND_IN)}
+    names = """SELECT c.relname || CASE WHEN i.indisvalid THEN '' ELSE ' INVALID' END FROM pg_index i
+    JOIN pg_class c ON c.oid = i.indexrelid JOIN pg_namespace n ON n.oid = c.relnamespace
+    WHERE n.nspname = 'public' ORDER BY 1"""
+
+    def script(self, *also: str) -> str:
+        files = self.in_folder("c.toml", "l.sql", "q.sql")
+        (self.folder / "q.sql").write_text("SELECT note FROM parted; SELECT id FROM parent; SELECT c FROM plain;")
+        self.call("export", *files[:2], "--sql", files[2])
+        words = [word for it in also for word in ("--also", it)]
+        return self.call("ddl", files[0], self.lay_advice(()), "--script", *words).stdout
+
+    def made(self) -> list[str]:
+        return self.server.value(self.names, self.database).splitlines()
+
+    def test_each_is_made_once_and_anew_where_it_was_left_invalid(self) -> None:
+        text = self.script("plain(lower(Name))", "plain(upper(order))", "parted(lower(note))", "parent(lower(a))")
+        self.run_script(text)
+        made = self.made()
+        self.assertEqual(len(made), 2 + 3 + 2, made)
+        self.assertFalse([it for it in made if it.endswith("INVALID")])
+        self.assertEqual(self.run_script(text).count("it is there already"), 4)
+        spoil = "UPDATE pg_index SET indisvalid = false WHERE indexrelid = '{}'::regclass;"
+        broken = ('"plain_lower_Name_idx"', "plain_upper_order_idx")
+        self.server.psql("".join(map(spoil.format, broken)), self.database)
+        self.assertEqual(self.run_script(text).count("an earlier run left it INVALID"), 2)
+        self.assertEqual(self.made(), made)
+        self.run_script(text, "-v", "undo=1")
+        self.assertEqual(self.made(), [])
+
+    def test_another_index_of_that_name_is_left_alone(self) -> None:
+        text = self.script("plain(lower(c))")
+        for other in (
+            "c",
+            "pg_catalog.upper(c)",
+            "public.lower(c)",
+            'pg_catalog.lower("order")',
+            'pg_catalog.lower(c), "Name"',
+        ):
+            with self.subTest(other=other):
+                self.server.psql(f"CREATE INDEX plain_lower_c_idx ON plain ({other})", self.database)
+                self.assertIn("its name is taken by another", self.run_script(text, status=3))
+                self.run_script(text, "-v", "undo=1")
+                self.assertEqual(self.made(), ["plain_lower_c_idx"])
+                self.server.psql("DROP INDEX plain_lower_c_idx", self.database)
+
+    def test_other_words_are_refused(self) -> None:
+        for word in ("plain(c)", "plain(trim(c))", "plain(lower(c)), x(lower(c))"):
+            self.call("ddl", "c", "a", "--also", word, status=2)
 
 
 if __name__ == "__main__":

@@ -56,7 +56,7 @@ _cophy_pg() {
         export) options+=" --dsn --sql --log --report --since --min-calls --table --user --may-cluster --timeout$rewriting --program" ;;
         rewrite) options+=" --report$rewriting --program" ;;
         rules) options+=" --skip-unknown" ;;
-        ddl) options+=" --script --include --unadvised --rows-a-second --order --pages-a-second --json" ;;
+        ddl) options+=" --script --include --also --unadvised --rows-a-second --order --pages-a-second --json" ;;
         verify)
             options+=" --dsn --sql --log --since --min-calls --table --user --timeout --i-trust-the-statements"
             options+=" --advice --rules --json --program"

@@ -16,7 +16,7 @@ from cophy_pg import export, folder, inputs, unlimited
 from cophy_pg.advise_words import parser_of
 from cophy_pg.catalogue import read_schema
 from cophy_pg.choice import Choice
-from cophy_pg.closing import ending
+from cophy_pg.closing import ending, rows_of
 from cophy_pg.clustering import permit
 from cophy_pg.commands import commands_text, unless_broken_off
 from cophy_pg.curve import as_json as as_json_of_point
@@ -26,7 +26,7 @@ from cophy_pg.included import searched_columns
 from cophy_pg.expression_hints import hints_of
 from cophy_pg.making import ddl_text, in_order
 from cophy_pg.outcomes import Verdict
-from cophy_pg.overview import gain_of, lines_of
+from cophy_pg.overview import gain_of, lines_of, named
 from cophy_pg.page import NoReport, page_of
 from cophy_pg.picks import home_of
 from cophy_pg.plans import plans_of
@@ -87,7 +87,7 @@ def advise(words: argparse.Namespace) -> int:
         say(str(fault))
     if not words.is_silent:
         print(json.dumps(document, indent=2) if words.json else text, end="\n" if words.json else "")
-    return 0 if document["picks"] else NOTHING
+    return 0 if rows_of(document) else NOTHING
 
 
 class Run:
@@ -121,11 +121,12 @@ class Run:
             with connected(self.words.dsn, self.words.timeout) as server:
                 choice, judged = rounds.best(server, first)
                 self.steps.begin("")
-                self._tell_owners(server, found.schema, choice)
                 with self.steps.step("plans", "comparing plans", 2 * len(judged.verdicts)):
                     plans = plans_of(server, found.schema, choice.advice, judged.verdicts, self.steps)
                 with self.steps.step("hints", "looking for indexes that our model doesn't know"):
                     hints = hints_of(server, found.schema, choice.advice, judged.verdicts, self.steps)
+                tables = {it.table for it in choice.advice.picks} | {it.index.table.shown for it in hints}
+                self._tell_owners(server, found.schema, tables)
             with self.steps.step("check", "checking the certificate"):
                 left_out = [it for it, _ in choice.left_out]
                 unused = self.searches.unused(found.schema, self.rules, choice.advice.picks, left_out)
@@ -156,9 +157,8 @@ class Run:
             self.folder.write({folder.CURVE: json.dumps(curve, indent=2) + "\n"})
         return result.document()
 
-    def _tell_owners(self, server: Server, schema: Schema, choice: Choice) -> None:
-        """Who owns the tables of the picks, the owner of the most first, and how many indexes they have."""
-        picked = {it.table for it in choice.advice.picks}
+    def _tell_owners(self, server: Server, schema: Schema, picked: set[str]) -> None:
+        """Who owns the tables of picks and hints, the owner of the most first, and how many indexes they have."""
         tables = [it for it in schema.tables.values() if it.shown in picked]
         with reading(server):
             found = owners_of(server, [it.oid for it in tables])
@@ -194,18 +194,25 @@ class Run:
         """Writes what the last steps found."""
         none, kept, _ = result.prices
         picks, order, unadvised = result.choice.advice.picks, result.numbers(), result.places_left_out()
+        hints = result.made_hints()
+        also = [it for _, it in hints]
         text = advice_text(replace(result.advice, picks=picks), [it.number for it in picks], kept.total)
-        brings = {it["number"]: gain_of(it) for it in result.plain_picks()}
+        brings = {named(it): gain_of(it) for it in [*result.plain_picks(), *(it for it, _ in hints)]}
         self.folder.write(
             {
                 folder.VERIFY: json.dumps(as_json(result.judged, [none, kept, kept]), indent=2) + "\n",
                 folder.KEPT: text,
                 folder.DDL: ddl_text(
-                    result.schema, in_order(read_advice(text), order), is_script=True, unadvised=unadvised, gains=brings
+                    result.schema,
+                    in_order(read_advice(text), order),
+                    is_script=True,
+                    unadvised=unadvised,
+                    gains=brings,
+                    also=also,
                 ),
                 folder.PLANS: json.dumps(result.plans.document(result.workload)) + "\n",
                 folder.COMMANDS: commands_text(
-                    self.words, self.folder, result.advice.budget, bool(result.told["rules"]), order, unadvised
+                    self.words, self.folder, result.advice.budget, bool(result.told["rules"]), order, unadvised, also
                 ),
             }
         )

@@ -11,7 +11,8 @@ from cophy_text.files import shown
 from cophy_text.shown import grouped, percent, short, space
 from cophy_pg import folder
 from cophy_pg.catalogue import read_schema
-from cophy_pg.ddl import NoIndex, names_of
+from cophy_pg.closing import is_hint, rows_of
+from cophy_pg.ddl import NoIndex, names_of, taken_names
 from cophy_pg.folder import Folder
 from cophy_pg.inputs import NoInput
 from cophy_pg.overview import named
@@ -44,7 +45,9 @@ class Found:
         return Found(document, read_schema(kept.read(kept.whole())))
 
     def has(self, pick: dict[str, Any]) -> bool:
-        """Whether an index of the catalogue is over just these columns."""
+        """Whether an index of the catalogue is over just these columns; of a hint, whether there is one of its name."""
+        if is_hint(pick):
+            return pick["name"].lower() in taken_names(self.schema)
         try:
             table, columns = names_of(self.schema, Candidate(0, pick["table"], tuple(pick["columns"]), 0))
         except NoIndex:
@@ -81,7 +84,7 @@ def compared(old: Found, new: Found) -> dict[str, Any]:
         {it: side.document[it] for it in ("made", "folder", "asked_pages", "cost", "server_cost")}
         for side in (old, new)
     ]
-    before, after = ({named(it): it for it in side.document["picks"]} for side in (old, new))
+    before, after = ({named(it): it for _, it in rows_of(side.document)} for side in (old, new))
     why = {named(it): it["why"] for it in new.document["left_out"]}
     made = [name for name, it in before.items() if name not in after and new.has(it)]
     gone = [name for name in before if name not in after and name not in made]
@@ -103,7 +106,7 @@ def compared(old: Found, new: Found) -> dict[str, Any]:
 
 
 def _pick(name: str, pick: dict[str, Any]) -> dict[str, Any]:
-    saves = {it: pick["saves"][it] for it in ("ours", "server")}
+    saves = {it: pick["saves"].get(it) for it in ("ours", "server")}
     return {"index": name, "name": pick["name"], "stored_pages": pick["stored_pages"], "saves": saves}
 
 
@@ -200,7 +203,9 @@ _KINDS = (
 
 
 def _shown(pick: dict[str, Any]) -> str:
-    saves = f"{percent(pick['saves']['ours'])} by our model, {percent(pick['saves']['server'])} by the server's"
+    ours, server = pick["saves"]["ours"], pick["saves"]["server"]
+    saves = "" if ours is None else f"{percent(ours)} by our model, "
+    saves += f"{percent(server)} by the server's"
     why = f"; {pick['why']}" if pick.get("why") else ""
     return f"{pick['index']}, {space(pick['stored_pages'])}, saves {saves}{why}"
 

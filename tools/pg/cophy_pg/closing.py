@@ -42,22 +42,40 @@ def advised_of(document: dict[str, Any]) -> list[dict[str, Any]]:
     return [it for it in document["picks"] if not it.get("caveat")]
 
 
+def is_hint(row: dict[str, Any]) -> bool:
+    """Whether what is made is none of the program's picks."""
+    return "why_not" in row
+
+
+def made_hints(document: dict[str, Any]) -> list[dict[str, Any]]:
+    """The hints that the script makes."""
+    return [it for it in document.get("hints", []) if not it["why_not"]]
+
+
 def rows_of(document: dict[str, Any]) -> list[tuple[int, dict[str, Any]]]:
-    """All that the script makes with its numbers, which are the same wherever they stand: the picks that are recommended, and
-    then the others."""
+    """All that the script makes with its numbers, which are the same wherever they stand: the picks that are recommended, the
+    hints that it makes, and the other picks."""
     others = [it for it in document["picks"] if it.get("caveat")]
-    return [*enumerate([*advised_of(document), *others], 1)]
+    return [*enumerate([*advised_of(document), *made_hints(document), *others], 1)]
+
+
+def pages_of(document: dict[str, Any]) -> int:
+    """What those take that are made without being asked for."""
+    hints: int = sum(it["stored_pages"] for it in made_hints(document))
+    return hints + int(recommended_of(document)["stored_pages"])
 
 
 def time_falls(document: dict[str, Any]) -> float:
-    """How many percent of the measured time the recommended picks save, if each statement's falls as the server says that its
-    cost does. One whose cost the server doesn't say saves nothing, and what isn't recommended is taken off."""
+    """How many percent of the measured time the recommended picks and the hints save, if each statement's falls as the server
+    says that its cost does. One whose cost the server doesn't say saves nothing, and what isn't recommended is taken off.
+    """
     whole, saved = seconds_of(document["statements"]) or 0.0, 0.0
     for it in document["statements"]:
         if (cost := it["server_cost"]) and cost["before"]:
             saved += (it["seconds"] or 0.0) * (cost["before"] - cost["after"]) / cost["before"]
     others = sum(it["saves"].get("planned") or 0.0 for it in document["picks"] if it.get("caveat"))
-    return max(0.0, 100 * saved / whole - others) if whole else 0.0
+    hints = sum(it["saves"]["planned"] or 0.0 for it in made_hints(document))
+    return max(0.0, 100 * saved / whole - others) + hints if whole else 0.0
 
 
 def is_all_advised(document: dict[str, Any]) -> bool:
@@ -116,9 +134,9 @@ def proof_of(document: dict[str, Any]) -> str:
 def next_of(document: dict[str, Any], script: str) -> list[str]:
     """Who may run the script, and how, where it makes something; and who may have faked what was counted."""
     doubts = [f"warning: {it}" for it in document.get("doubts", [])]
-    if not document["picks"]:
+    if not rows_of(document):
         return doubts
-    made = advised_of(document) or document["picks"]
+    made = [it for _, it in rows_of(document) if not it.get("caveat")] or document["picks"]
     known = [it["build_seconds"] for it in made if it.get("build_seconds") is not None]
     time = f" in about {duration(sum(known))}" if known else ""
     commands = commands_of(document, script)
@@ -164,7 +182,7 @@ def member_of(document: dict[str, Any], script: str) -> str | None:
     made = ["sudo", "-u", "postgres", "createuser", *at, f"--role={owner}", ours]
     # What the shell was told for the advisor's role names another one.
     words = ["env", "-u", "PGHOST", "-u", "PGUSER", "psql", "-X", *at, "-d", _plain(str(document["database"]))]
-    more = " -v all=1" if not advised_of(document) else ""
+    more = " -v all=1" if all(it.get("caveat") for _, it in rows_of(document)) else ""
     return f"{shlex.join(made)} && {shlex.join(words)}{more} -f {shlex.quote(script)}"
 
 
@@ -198,4 +216,6 @@ def last_of(document: dict[str, Any]) -> list[str]:
     more = [document.get(it) for it in ("unused", "knee")]
     if more[0] and not is_all_advised(document):
         more[0] = f"with all, those not recommended too, {more[0]}"
+    if more[0] and (hints := sum(it["stored_pages"] for it in made_hints(document))):
+        more[0] += f"; hints take {space(hints)} of that"
     return [end_of(document) + is_checked, *(it for it in more if it)]

@@ -9,6 +9,7 @@ from contextlib import contextmanager
 
 from cophy_text.files import shown
 from cophy_pg import clustering, folder
+from cophy_pg.ddl import Applied
 from cophy_pg.folder import Folder
 from cophy_pg.progress import say
 from cophy_pg.rewrite.options import words_of
@@ -21,8 +22,10 @@ def commands_text(
     has_rules: bool,
     order: Sequence[int] = (),
     unadvised: Sequence[int] = (),
+    also: Sequence[Applied] = (),
 ) -> str:
-    """A line for each step, without the connection. The budget is the program's, in pages; the order is that of the picks, of which the ones at the unadvised places aren't recommended."""
+    """A line for each step, without the connection. The budget is the program's, in pages; the order is that of the picks, of
+    which the ones at the unadvised places aren't recommended; others are made too."""
     both = [kept.path(folder.CATALOGUE), kept.path(folder.WORKLOAD)]
     chosen, written = _chosen(words), [*words_of(words), *clustering.words_of(words)]
     nodes = ["--nodes", str(words.nodes)] if words.nodes else []
@@ -30,6 +33,7 @@ def commands_text(
     advice, certificate, curve = kept.path(folder.ADVICE), kept.path(folder.CERTIFICATE), kept.path(folder.CURVE)
     ordered = ["--order", ",".join(map(str, order))] if len(order) > 1 else []
     ordered += ["--unadvised", ",".join(map(str, unadvised))] if unadvised else []
+    ordered += [word for it in also for word in ("--also", it.shown())]
     ruled: list[list[str]] = []
     if has_rules:
         ruled = [[words.program, "ruled", *both, str(budget), kept.path(folder.RULES), *nodes]]

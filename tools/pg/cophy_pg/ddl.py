@@ -18,22 +18,35 @@ class NoIndex(Exception):
 
 
 @dataclass(frozen=True)
+class Applied(Candidate):
+    """An index over a function of its one column, which the program doesn't know."""
+
+    function: str = ""
+
+    def shown(self) -> str:
+        return f"{self.table}({self.function}({self.columns[0]}))"
+
+
+@dataclass(frozen=True)
 class Named:
-    """An index that is to be made: its name, its table, its columns, of which the first `keys` are keys, and whether it is
-    made CONCURRENTLY."""
+    """An index that is to be made: its name, its table, its columns, of which the first `keys` are keys, whether it is made
+    CONCURRENTLY, and PostgreSQL's function of its one column that it is over, where it isn't over that itself."""
 
     name: str
     where: tuple[str, str]
     columns: list[str]
     keys: int
     is_concurrent: bool
+    function: str = ""
 
     def shown(self) -> str:
         """Its name with its schema, as it is written."""
         return written_path((self.where[0], self.name))
 
     def columns_text(self) -> str:
-        """Its columns as they are written."""
+        """Its columns as they are written. No other function of that name is meant, whatever the path."""
+        if self.function:
+            return f"(pg_catalog.{self.function}({written_name(self.columns[0])}))"
         keys, others = (
             ", ".join(map(written_name, it)) for it in (self.columns[: self.keys], self.columns[self.keys :])
         )
@@ -82,9 +95,16 @@ class Made:
         return self.laid.where if self.laid else self.indexes[0].where
 
     @property
+    def analyses(self) -> list[str]:
+        """What counts the values of functions once their indexes are there."""
+        tables = dict.fromkeys(it.where for it in self.indexes if it.function)
+        return [f"ANALYZE {written_path(it)};" for it in tables]
+
+    @property
     def statements(self) -> list[str]:
         """The statements that make the indexes."""
-        return [*(it.statement() for it in self.indexes), *(self.laid.statements() if self.laid else ())]
+        laid = self.laid.statements() if self.laid else ()
+        return [*(it.statement() for it in self.indexes), *laid, *self.analyses]
 
 
 def advice_of(file: str, may_be_retuned: bool = False) -> Advice:
@@ -168,15 +188,15 @@ def create(schema: Schema, pick: Candidate, taken: set[str]) -> Made:
         return Made(pick, why_not=f"the rows lie in its order already, by the index {written_name(there.name)}")
     if there is not None:
         return Made(pick, laid=Laid(where, there.name))
-    name = _free(f"{table.shown}_{'_'.join(pick.columns)}", taken)
-    count = key_count(pick, schema.searched)
-    indexes = [Named(name, where, columns, count, not table.is_partitioned)]
+    function = pick.function if isinstance(pick, Applied) else ""
+    end, count = "_".join([*[function] * bool(function), *pick.columns]), key_count(pick, schema.searched)
+    name = _free(f"{table.shown}_{end}", taken)
+    indexes = [Named(name, where, columns, count, not table.is_partitioned, function)]
     for child in table.children:
         known = schema.tables.get(child)
-        if known is None or not any(it.keys == columns for it in known.indexes):
+        if known is None or function or not any(it.keys == columns for it in known.indexes):
             stem = known.shown if known is not None else re.sub(r"[^A-Za-z0-9_]", "_", child[1])
-            own = _free(f"{stem}_{'_'.join(pick.columns)}", taken)
-            indexes.append(Named(own, child, columns, count, True))
+            indexes.append(Named(_free(f"{stem}_{end}", taken), child, columns, count, True, function))
     return Made(pick, tuple(indexes), laid=Laid(where, name) if pick.is_clustered else None)
 
 

@@ -1,5 +1,5 @@
 """Indexes over lower() or upper() of a column, of which our model knows nothing: hints that the server's planner has judged,
-for statements that the picks don't help. They are no part of the advice or of its proof."""
+for statements that the picks don't help. They are no part of the program's advice or of its proof."""
 from __future__ import annotations
 
 from collections.abc import Iterable, Iterator
@@ -9,12 +9,10 @@ from typing import Any, NamedTuple
 from pglast import ast
 from pglast.enums import A_Expr_Kind, BoolExprType
 
-from cophy_text.answers import Advice, Candidate
-from cophy_text.shown import share, space
-from cophy_pg.ddl import written_name, written_path
+from cophy_text.answers import Advice
+from cophy_pg.ddl import Applied, written_name, written_path
 from cophy_pg.explain import Explainer, Statement
-from cophy_pg.guesses import seconds_of
-from cophy_pg.outcomes import Verdict, numbered
+from cophy_pg.outcomes import Verdict
 from cophy_pg.parameters import Columns
 from cophy_pg.picks import home_of, hypothetical_by, index_names, make
 from cophy_pg.plans import each_plan
@@ -22,13 +20,11 @@ from cophy_pg.progress import Progress, say
 from cophy_pg.rewrite.expressions import nodes_of
 from cophy_pg.schema import Schema, Table
 from cophy_pg.server import ServerFault, Server, reading
-from cophy_pg.sizes import stored_pages
-from cophy_pg.unlimited import TEXTS, exceeding, warning
+from cophy_pg.unlimited import TEXTS
 
 FUNCTIONS = frozenset(("lower", "upper"))
-MOST, SHOWN, LITTLE = 8, 2, 0.01
-"""So many are asked about, those with the most time first, and so many stand in the summary, which have this part of the
-whole."""
+MOST = 8
+"""So many are asked about, those with the most time first."""
 SAME, HELPED = 0.9, 0.5
 """A statement has a hint that costs more than this part of before with the picks, and less than this part of that with the
 index."""
@@ -41,14 +37,14 @@ class ExpressionIndex(NamedTuple):
     function: str
     column: str
 
-    def statement(self, how: str = "") -> str:
+    def statement(self) -> str:
         """What makes it. No other function of that name is meant, whatever the path."""
         where = written_path((self.table.schema, self.table.name))
-        return f"CREATE INDEX {how}ON {where} (pg_catalog.{self.function}({written_name(self.column)}))"
+        return f"CREATE INDEX ON {where} (pg_catalog.{self.function}({written_name(self.column)}))"
 
-    def shown(self) -> str:
-        """Its expression by the names of the catalogue."""
-        return f"{self.function}({self.table.columns[self.column].shown})"
+    def pick(self) -> Applied:
+        """The index by the names of the catalogue."""
+        return Applied(0, self.table.shown, (self.table.columns[self.column].shown,), 0, function=self.function)
 
 
 @dataclass
@@ -58,40 +54,20 @@ class Hint:
     index: ExpressionIndex
     users: list[tuple[Verdict, float]]
 
-    def document(self, schema: Schema) -> dict[str, Any]:
-        """The hint as the document has it. It is as large as an index over the column itself."""
-        table, times = self.index.table, [it.input.seconds for it, _ in self.users]
-        alike = Candidate(0, table.shown, (table.columns[self.index.column].shown,), 0)
-        how = "" if table.is_partitioned else "CONCURRENTLY "
-        return {
-            "statement": f"{self.index.statement(how)};",
-            "table": table.shown,
-            "expression": self.index.shown(),
-            "statements": sorted({number for it, _ in self.users for number in it.written}),
-            "seconds": None if None in times else sum(it or 0.0 for it in times),
-            "before": sum(it.calls * (it.after or 0.0) for it, _ in self.users),
-            "after": sum(it.calls * cost for it, cost in self.users),
-            "stored_pages": stored_pages(schema, alike),
-            "long": exceeding(schema, alike),
-        }
 
-
-def hints_of(
-    server: Server, schema: Schema, advice: Advice, found: list[Verdict], progress: Progress
-) -> list[dict[str, Any]]:
+def hints_of(server: Server, schema: Schema, advice: Advice, found: list[Verdict], progress: Progress) -> list[Hint]:
     """The hints for statements that were explained before, those with the most time first; none where the server refuses."""
     hints: list[Hint] = []
     compared = [*_compared(schema, found).items()]
     try:
         for index, users in sorted(compared, key=lambda it: -_time(it[1], found))[:MOST]:
-            progress(f"asking about {index.table.shown}({index.shown()})")
+            progress(f"asking about {index.pick().shown()}")
             with reading(server, "READ COMMITTED"):
                 hint = Hint(index, [*_helped(server, schema, advice, index, users, progress)])
             hints += [hint] * bool(hint.users)
     except ServerFault as fault:
         say(f"indexes over functions weren't asked about: {fault.shown()}")
-    hints.sort(key=lambda it: -_time([user for user, _ in it.users], found))
-    return [it.document(schema) for it in hints]
+    return hints
 
 
 def _compared(schema: Schema, found: list[Verdict]) -> dict[ExpressionIndex, list[Verdict]]:
@@ -218,42 +194,3 @@ def _source(node: Any, sources: dict[str, Table]) -> tuple[str, str]:
     named = {before[-1]} & {*sources} if before else {*sources}
     found = [it for it in named if name in sources[it].columns]
     return (found[0], name) if len(found) == 1 else ("", name)
-
-
-def hints_shown(document: dict[str, Any]) -> list[str]:
-    """A line for each of the hints with the most time, for the summary."""
-    found = [it for it in document.get("hints", []) if _part(it, document)[0] >= LITTLE * _part(it, document)[1]]
-    return [
-        f"a hint by the server's planner alone: {_gain(it, document)} with {it['statement']}" for it in found[:SHOWN]
-    ]
-
-
-def hints_told(document: dict[str, Any]) -> list[str]:
-    """All hints with their sizes and their statements."""
-    lines = []
-    for it in document.get("hints", []):
-        told = f"{_gain(it, document)}, {numbered('statement', it['statements'])}"
-        told += f", {space(it['stored_pages'])}" if it["stored_pages"] is not None else ""
-        lines += [f"  {it['statement']}", f"    {told}"]
-        lines += [f"    {fails}"] if (fails := warning(it["long"])) else []
-    head = "hints by the server's planner alone, of indexes that our model doesn't know, beside those above"
-    return [f"{head}; run ANALYZE once one is made:", *lines, ""] if lines else []
-
-
-def hinted(document: dict[str, Any]) -> set[int]:
-    """The numbers of the statements that have hints."""
-    return {number for it in document.get("hints", []) for number in it["statements"]}
-
-
-def _gain(hint: dict[str, Any], document: dict[str, Any]) -> str:
-    """What a hint's statements have of the whole, and how much less they cost."""
-    part, whole, what = _part(hint, document)
-    return f"{share(part, whole)} of the {what} costs {share(hint['before'] - hint['after'], hint['before'])} less"
-
-
-def _part(hint: dict[str, Any], document: dict[str, Any]) -> tuple[float, float, str]:
-    """The measured time of a hint's statements beside that of all, or else what they cost the server with the picks."""
-    whole = seconds_of(document["statements"])
-    if hint["seconds"] is not None and whole:
-        return hint["seconds"], whole, "time"
-    return hint["before"], document["server_cost"]["after"], "cost"

@@ -4,6 +4,7 @@ from __future__ import annotations
 import argparse
 import json
 import os
+import re
 from collections.abc import Mapping, Sequence
 from contextlib import suppress
 from dataclasses import replace
@@ -13,9 +14,9 @@ from typing import Any
 
 from cophy_text import files
 from cophy_text.answers import UNIT, Advice
-from cophy_text.shown import grouped
+from cophy_text.shown import grouped, space
 from cophy_pg.catalogue import read_schema
-from cophy_pg.ddl import Made, advice_of, create, taken_names
+from cophy_pg.ddl import Applied, Made, advice_of, create, taken_names
 from cophy_pg.included import searched_columns
 from cophy_pg.progress import say
 from cophy_pg.schema import Schema
@@ -66,6 +67,14 @@ def add_ddl(commands: argparse._SubParsersAction[argparse.ArgumentParser]) -> No
         help="the order of the picks, by their numbers in the advice",
     )
     parser.add_argument(
+        "--also",
+        type=applied,
+        action="append",
+        default=[],
+        metavar="T(lower(C))",
+        help="an index over lower() or upper() of a column that is made too, behind the picks, but before those of --unadvised",
+    )
+    parser.add_argument(
         "--unadvised",
         type=numbers,
         default=[],
@@ -93,6 +102,14 @@ def _add_speeds(parser: argparse.ArgumentParser) -> None:
         metavar="N",
         help=f"how fast CLUSTER writes a table beside its indexes, for the estimates ({PAGES_A_SECOND})",
     )
+
+
+def applied(text: str) -> Applied:
+    """An index over a function of a column."""
+    found = re.fullmatch(r"(\w+)\((lower|upper)\((\w+)\)\)", text)
+    if found is None:
+        raise ValueError
+    return Applied(0, found[1], (found[3],), 0, function=found[2])
 
 
 def numbers(text: str) -> list[int]:
@@ -124,12 +141,15 @@ def ddl(words: argparse.Namespace) -> int:
         say(NEWER)
     if words.json:
         print(
-            json.dumps(_as_json(schema, advice, made_of(schema, advice)) | {"catalogue_is_newer": is_newer}, indent=2)
+            json.dumps(
+                _as_json(schema, advice, made_of(schema, advice, words.also)) | {"catalogue_is_newer": is_newer},
+                indent=2,
+            )
         )
     else:
         more = [f"-- {NEWER}"] if is_newer else []
         speed = Speed(words.rows_a_second, words.pages_a_second)
-        print(ddl_text(schema, advice, speed, words.script, more, words.unadvised), end="")
+        print(ddl_text(schema, advice, speed, words.script, more, words.unadvised, also=words.also), end="")
     return 0
 
 
@@ -140,10 +160,10 @@ def _is_newer(catalogue: str, advice: str) -> bool:
     return False
 
 
-def made_of(schema: Schema, advice: Advice) -> list[Made]:
-    """The indexes of an advice."""
-    taken = taken_names(schema)
-    made = [create(schema, it, taken) for it in advice.picks]
+def made_of(schema: Schema, advice: Advice, also: Sequence[Applied] = (), unadvised: int = 0) -> list[Made]:
+    """The indexes of an advice, and others behind all but those of its last picks that aren't recommended."""
+    taken, at = taken_names(schema), len(advice.picks) - unadvised
+    made = [create(schema, it, taken) for it in (*advice.picks[:at], *also, *advice.picks[at:])]
     for place, it in enumerate((it for it in made if not it.why_not), 1):
         it.place = place
     # A table is laid anew before its other indexes are made, which would be made anew with it.
@@ -157,26 +177,35 @@ def ddl_text(
     is_script: bool = False,
     more: list[str] | None = None,
     unadvised: Sequence[int] = (),
-    gains: Mapping[int, str] = MappingProxyType({}),
+    gains: Mapping[str, str] = MappingProxyType({}),
+    also: Sequence[Applied] = (),
 ) -> str:
     """The statements with comments on what they are of, or a script, which makes what isn't advised where it is asked to, and
-    says what picks bring, where that is given by their numbers."""
+    says what picks bring, where that is given. What isn't of the advice is made too."""
     end = "the bound is reached: no other choice costs less" if advice.is_finished else "these picks cost more than it"
-    made = made_of(schema, advice)
+    made = made_of(schema, advice, also, len(unadvised))
     budget, size = both(advice.budget, None), both(advice.size, sum(stored_of(schema, it) for it in made))
     cost, bound, gap = map(grouped, (advice.cost, advice.bound, advice.gap))
     head = [*(more or []), f"-- budget {budget}, size {size}", f"-- cost {cost}, bound {bound}, gap {gap}: {end}"]
     head.append(f"-- {UNIT}")
     left_out = [f"-- pick {it.pick.number} is left out, {_comment(it.why_not)}" for it in made if it.why_not]
     if is_script:
-        shown = {number: _comment(it) for number, it in gains.items()}
+        shown = {name: _comment(it) for name, it in gains.items()}
         return script_text(schema, made, [*(more or []), *left_out], speed, unadvised, shown)
     lines = [*head, *OWNERS]
     for it in made:
-        lines += ["", f"-- pick {it.pick.number}: {both(it.pick.pages, stored_of(schema, it) or None)}"]
+        lines += ["", f"-- {_sized(schema, it)}"]
         lines += [f"-- {fails}"] if (fails := warning(exceeding(schema, it.pick))) and not it.why_not else []
         lines += [f"-- left out, {_comment(it.why_not)}"] if it.why_not else _statements(schema, it, speed)
     return "\n".join(lines) + "\n"
+
+
+def _sized(schema: Schema, made: Made) -> str:
+    """A pick with its sizes; our model knows none of a function."""
+    stored = stored_of(schema, made)
+    if isinstance(made.pick, Applied):
+        return f"{made.pick.shown()}: about {space(stored)}"
+    return f"pick {made.pick.number}: {both(made.pick.pages, stored or None)}"
 
 
 def _statements(schema: Schema, made: Made, speed: Speed) -> list[str]:
@@ -185,7 +214,7 @@ def _statements(schema: Schema, made: Made, speed: Speed) -> list[str]:
     if made.laid is not None:
         told = [*speed.told(schema.tables[made.where], len(made.indexes)), WAITS]
         lines += [*(f"-- {it}" for text in told for it in wrap(text, 117)), *made.laid.statements()]
-    return lines
+    return [*lines, *made.analyses]
 
 
 def stored_of(schema: Schema, made: Made) -> int:
@@ -209,7 +238,7 @@ def _as_json(schema: Schema, advice: Advice, made: list[Made]) -> dict[str, Any]
         "finished": advice.is_finished,
         "picks": [
             {
-                "number": it.pick.number,
+                "number": it.pick.number or None,
                 "table": it.pick.table,
                 "columns": it.pick.columns,
                 "clustered": it.pick.is_clustered,

@@ -6,9 +6,10 @@ from typing import Any
 from cophy_text.answers import counted
 from cophy_text.shown import grouped, percent, share, short, space
 from cophy_pg.choice import ASKED, UNTAKEN
-from cophy_pg.closing import advised_of, costs, last_of, recommended_of, rows_of
-from cophy_pg.guesses import doubt_of, gains, is_judged, seconds_of, time_saved, warning_of
-from cophy_pg.expression_hints import SAME, hinted, hints_told
+from cophy_pg.closing import costs, is_hint, last_of, pages_of, recommended_of, rows_of
+from cophy_pg.expression_hints import SAME
+from cophy_pg.guesses import doubt_of, gains, saved_of, seconds_of, time_saved, warning_of
+from cophy_pg.hints import ALONE, hinted, hints_told
 from cophy_pg.recommended import KINDS, LITTLE
 from cophy_pg.rewrite.parse import without_literals
 from cophy_pg.speed import duration
@@ -31,10 +32,10 @@ def lines_of(document: dict[str, Any]) -> list[str]:
     lines = [_head(document), *(f"warning: {it}" for it in document["warnings"])]
     time = "measured time" if measured(document) == "seconds" else "calls"
     head = f"{SAVES}{' time':>10}" if time_of(document) else SAVES
-    lines += [f"{head}  % saved; statement, {time}"] if document["picks"] else [""]
+    lines += [f"{head}  % saved; statement, {time}"] if rows_of(document) else [""]
     for at, it in rows_of(document):
         lines += [*_pick(at, it, document), *_longer(it, document)]
-    lines += [""] * bool(document["picks"])
+    lines += [""] * bool(rows_of(document))
     lines += [*_hints(document), *hints_told(document)]
     lines += [told(long), ""] if (long := document.get("long_columns", [])) else []
     lines += [*_left_out(document["left_out"]), *_skipped(document)]
@@ -143,9 +144,8 @@ def named(pick: dict[str, Any]) -> str:
 
 def gain_of(pick: dict[str, Any]) -> str:
     """What a pick saves, of the measured time where that is known, and the statement that gains the most, without literals."""
-    time, user = time_saved(pick), user_of(pick)
-    cost = pick["saves"]["server"] if is_judged(pick) else pick["saves"]["ours"]
-    saved = f"saves {percent(cost)}" if time is None else f"saves {percent(time)} of the time"
+    user, saved = user_of(pick), f"saves {percent(saved_of(pick))}"
+    saved += " of the time" * (time_saved(pick) is not None) + " by the server's planner alone" * is_hint(pick)
     return saved + (f", the most of {short(without_literals(user['sql']))}" if user else "")
 
 
@@ -168,17 +168,17 @@ def listed_numbers(numbers: list[int]) -> str:
 
 def headline(document: dict[str, Any]) -> str:
     """How many indexes there are to make."""
-    count = len(advised_of(document))
+    count = sum(not it.get("caveat") for _, it in rows_of(document))
     plainly = "plainly " * bool(document["picks"])
     return f"{count} index{'es' * (count != 1)} to make" if count else f"no index is {plainly}worth making"
 
 
 def _head(document: dict[str, Any]) -> str:
-    found, every = recommended_of(document)["stored_pages"], document["stored_pages"]
-    made = advised_of(document)
-    others = len(document["picks"]) - len(made)
-    size = f", {space(found)} of {space(document['asked_pages'])}" if made else ""
-    size += f", and {others} not recommended, {space(every - found)}" if others else ""
+    others = sum(bool(it.get("caveat")) for _, it in rows_of(document))
+    is_any = len(rows_of(document)) > others
+    size = f", {space(pages_of(document))} of {space(document['asked_pages'])}" if is_any else ""
+    rest = document["stored_pages"] - recommended_of(document)["stored_pages"]
+    size += f", and {others} not recommended, {space(rest)}" if others else ""
     what = f"database {document['database']!a}, {part_of(document)}"
     return f"{headline(document)}{size}: {what}; advised in {_seconds(sum(document['seconds'].values()))}"
 
@@ -207,18 +207,18 @@ def measured(document: dict[str, Any]) -> str:
 
 def _pick(at: int, pick: dict[str, Any], document: dict[str, Any]) -> list[str]:
     taken = {
-        "taken": "",
+        "taken": f"judged by {ALONE}" if is_hint(pick) else "",
         "unknown": "whether plans take it isn't known",
         "not taken": "a rule asks for it, no plan takes it",
-    }[pick["outcome"]]
+    }[pick.get("outcome", "taken")]
     lines = [f"{at}. {it}" if n == 0 else f"   {it}" for n, it in enumerate(pick["statements"])]
     lines += [f"   {space(pick['stored_pages']):>9} {_shares(pick)}  {_for(pick)}"]
     lines += [f"   {taken}"] if taken else []
     caveat, fails = pick.get("caveat"), warning(pick.get("long", []))
     why = f"not recommended: {caveat}" if caveat else doubt_of(pick) or warning_of(pick, document)
     lines += [f"   {it}" for it in (why, fails) if it and it != caveat]
-    lines += [f"   unknown: {it}" for it in pick["unknown_for"]]
-    lines += [f"   {pick['begins']} begins with its columns"] if pick["begins"] else []
+    lines += [f"   unknown: {it}" for it in pick.get("unknown_for", [])]
+    lines += [f"   {pick['begins']} begins with its columns"] if pick.get("begins") else []
     lines += [f"   beside it {name} is superfluous" for name in pick.get("superfluous", [])]
     return lines + [f"   {it}" for it in pick["notes"]]
 
@@ -254,8 +254,9 @@ def _seconds(number: float) -> str:
 
 def _shares(pick: dict[str, Any]) -> str:
     """What a pick saves of the cost, by our model and by the server's planner, and of the measured time where that is known."""
-    found = [pick["saves"]["ours"], pick["saves"]["server"], time_saved(pick)]
-    return " ".join(f"{percent(it).removesuffix(' %'):>9}" for it in found if it is not None)
+    time = time_saved(pick)
+    found = [pick["saves"].get("ours"), pick["saves"]["server"], *[time] * (time is not None)]
+    return " ".join(f"{'-' if it is None else percent(it).removesuffix(' %'):>9}" for it in found)
 
 
 def is_seen(change: dict[str, Any]) -> bool:

@@ -11,11 +11,11 @@ from cophy_text import files
 from cophy_text.answers import counted
 from cophy_text.shown import grouped, percent, share, short, space
 from cophy_pg import folder
-from cophy_pg.closing import end_of, is_all_advised, recommended_of, rows_of
+from cophy_pg.closing import end_of, is_all_advised, is_hint, pages_of, recommended_of, rows_of
 from cophy_pg.curves import curve_of
 from cophy_pg.folder import Folder
 from cophy_pg.guesses import doubt_of, warning_of
-from cophy_pg.expression_hints import hints_told
+from cophy_pg.hints import ALONE, hints_told
 from cophy_pg.overview import headline, is_seen, name_of, named
 from cophy_pg.plan_text import plan_text
 from cophy_pg.progress import say
@@ -94,6 +94,8 @@ def page_text(document: dict[str, Any], plans: dict[str, Any], curve: dict[str, 
         end=end_of(document),
         headline=headline(document),
         found=recommended_of(document),
+        pages=pages_of(document),
+        alone=ALONE,
         some=not is_all_advised(document),
         picks=[_pick(at, it, document) for at, it in rows_of(document)],
         left_out=[{"index": named(it), "pages": it["pages"], "why": it["why"]} for it in document["left_out"]],
@@ -145,7 +147,10 @@ def _pick(place: int, pick: dict[str, Any], document: dict[str, Any]) -> dict[st
         "build_seconds": None,
         "caveat": None,
         "superfluous": [],
+        "begins": None,
+        "outcome": "taken",
         **pick,
+        "is_hint": is_hint(pick),
         "place": place,
         "index": named(pick),
         "listed": changes,

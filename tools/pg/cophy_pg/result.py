@@ -10,7 +10,9 @@ from cophy_text.answers import Advice, Candidate, Prices
 from cophy_text.shown import short
 from cophy_pg.choice import Choice
 from cophy_pg.ddl import Made, create, taken_names
+from cophy_pg.expression_hints import Hint
 from cophy_pg.guesses import is_guessed, is_judged, time_saved, whole_of
+from cophy_pg.hints import Found, documents_of
 from cophy_pg.outcomes import ORDINARY, Outcome
 from cophy_pg.plans import Plans
 from cophy_pg.recommended import Recommended, caveat_of
@@ -51,13 +53,13 @@ class Result:
     owners: dict[str, str] = field(default_factory=dict)
     indexes: dict[str, int] = field(default_factory=dict)
     recommended: Recommended | None = None
-    hints: list[dict[str, Any]] = field(default_factory=list)
+    hints: list[Hint] = field(default_factory=list)
 
     def document(self) -> dict[str, Any]:
         """The document."""
         none, kept, all_ = self.prices
         count, before, after = self.judged.sums()
-        picks = self.plain_picks()
+        picks, hints = self.listed()
         places = {it["number"]: it["place"] for it in picks}
         return {
             "version": 1,
@@ -82,7 +84,7 @@ class Result:
             "functions": self.judged.functions,
             "picks": [it | {"caveat": self._caveat(it["number"])} for it in picks],
             "left_out": [{**_index(it), "why": why} for it, why in self.choice.left_out],
-            "hints": self.hints,
+            "hints": [it for it, _ in hints],
             "statements": [self._statement(at, it, places) for at, it in enumerate(self.workload.records, 1)],
             "seconds": {name: round(it, 3) for name, it in self.seconds.items()},
         }
@@ -99,7 +101,11 @@ class Result:
 
     def places_left_out(self) -> list[int]:
         """The places, from 1, of the picks that aren't recommended."""
-        return [at for at, number in enumerate(self.numbers(), 1) if self._caveat(number)]
+        return [it["place"] for it in self.plain_picks() if self._caveat(it["number"])]
+
+    def made_hints(self) -> list[Found]:
+        """The hints that the script makes."""
+        return [it for it in self.listed()[1] if it[0]["why_not"] is None]
 
     def _caveat(self, number: int) -> str | None:
         return self.recommended.why_not.get(number) if self.recommended else None
@@ -124,39 +130,58 @@ class Result:
         return writes_of(advised, [text for text, _ in self.workload.statements], calls, self.indexes)
 
     def plain_picks(self) -> list[dict[str, Any]]:
-        """The picks, those that are recommended first, and of each those that save the most, by names that are given in this
-        order."""
-        outcomes = {it.pick.number: it for it in self.judged.outcomes}
-        listed: list[dict[str, Any]] = [
-            _index(it.pick)
-            | {
-                "stored_pages": stored_size(self.schema, [it.pick]),
-                "outcome": outcomes[it.pick.number].name,
-                "saves": self._saves(it),
-                "changes": self._changes(it),
-                "owner": self.owners.get(it.pick.table),
-            }
-            for it in self.reasons
-        ]
-        taken, picks = taken_names(self.schema), {it.pick.number: it.pick for it in self.reasons}
-        ordered = sorted(listed, key=lambda it: (self._caveat(it["number"]) is not None, *place_of(it)))
-        return [
-            {"place": at} | it | self._made(picks[it["number"]], outcomes, taken) for at, it in enumerate(ordered, 1)
-        ]
+        """The picks, those that are recommended first, and of each those that save the most."""
+        return self.listed()[0]
 
-    def _made(self, pick: Candidate, outcomes: dict[int, Outcome], taken: set[str]) -> dict[str, Any]:
-        """How a pick is made, and what there is to say of that."""
-        made, outcome = create(self.schema, pick, taken), outcomes[pick.number]
+    def listed(self) -> tuple[list[dict[str, Any]], list[Found]]:
+        """The picks and the hints, whose places and names are given in the order in which they are made: picks that are
+        recommended, hints, other picks."""
+        outcomes = {it.pick.number: it for it in self.judged.outcomes}
+        by_number = {it.pick.number: it.pick for it in self.reasons}
+        picks = sorted((self._plain(it, outcomes[it.pick.number]) for it in self.reasons), key=place_of)
+        hints, taken = self._hints(), taken_names(self.schema)
+        advised, others = (
+            [it for it in picks if bool(self._caveat(it["number"])) is is_out] for is_out in (False, True)
+        )
+        rows = [(it, by_number[it["number"]]) for it in advised] + [it for it in hints if not it[0]["why_not"]]
+        rows += [(it, by_number[it["number"]]) for it in others]
+        for place, (it, pick) in enumerate(rows, 1):
+            it |= {"place": place} | self._made(pick, taken)
+        for it, pick in hints:
+            it |= {"owner": self.owners.get(pick.table)} | ({} if it["place"] else self._made(pick, {*taken}))
+        return [*advised, *others], hints
+
+    def _hints(self) -> list[Found]:
+        """The hints, once it is known what the picks leave of the space that was asked for."""
+        if self.recommended is None:
+            return []
+        time = whole_of([it.input.seconds for it in self.workload.records])
+        left = int(self.head["asked_pages"]) - int(self._recommended()["stored_pages"])
+        return documents_of(self.hints, self.schema, self.judged.sums()[1], time, left)
+
+    def _plain(self, reason: Reason, outcome: Outcome) -> dict[str, Any]:
+        """A pick, with what it saves and what the server says of it."""
+        return _index(reason.pick) | {
+            "stored_pages": stored_size(self.schema, [reason.pick]),
+            "outcome": outcome.name,
+            "saves": self._saves(reason),
+            "changes": self._changes(reason),
+            "owner": self.owners.get(reason.pick.table),
+            "unknown_for": [f"{why}: {where}" if where else why for why, where in outcome.reasons.items()],
+            "begins": outcome.begins or None,
+            "superfluous": [*outcome.superfluous],
+        }
+
+    def _made(self, pick: Candidate, taken: set[str]) -> dict[str, Any]:
+        """How a pick or a hint is made, and what there is to say of that."""
+        made = create(self.schema, pick, taken)
         return {
             "name": made.name,
             "statements": [*made.statements],
             "build_seconds": round(self._build(made), 3),
-            "unknown_for": [f"{why}: {where}" if where else why for why, where in outcome.reasons.items()],
-            "begins": outcome.begins or None,
             "notes": self._notes(made),
             "long": exceeding(self.schema, pick),
             "long_likely": likely(self.schema, pick),
-            "superfluous": [*outcome.superfluous],
         }
 
     def _build(self, made: Made) -> float:

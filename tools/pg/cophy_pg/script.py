@@ -27,10 +27,10 @@ def script_text(
     head: list[str],
     speed: Speed,
     unadvised: Sequence[int] = (),
-    gains: Mapping[int, str] = MappingProxyType({}),
+    gains: Mapping[str, str] = MappingProxyType({}),
 ) -> str:
     """The script. It can be run again after a fault, and with `-v undo=1` it drops what it made. What stands at the unadvised
-    places is made where that is asked for. `gains` says what picks bring, by their numbers."""
+    places is made where that is asked for. `gains` says what picks bring, as they are shown."""
     text = _text(schema, made, head, speed, unadvised, gains)
     marked = "".join(it for it in text.splitlines() if not it.startswith("--"))
     mark = f"cophy-pg, script {hashlib.sha256(marked.encode()).hexdigest()[:12]}"
@@ -38,7 +38,7 @@ def script_text(
 
 
 def _text(
-    schema: Schema, made: list[Made], head: list[str], speed: Speed, unadvised: Sequence[int], gains: Mapping[int, str]
+    schema: Schema, made: list[Made], head: list[str], speed: Speed, unadvised: Sequence[int], gains: Mapping[str, str]
 ) -> str:
     """The script without what marks it."""
     listed = [it for it in made if not it.why_not]
@@ -53,7 +53,7 @@ def _text(
     for it in listed:
         lines += [
             "",
-            *_about(schema, it, it.place in unadvised, gains.get(it.pick.number, "")),
+            *_about(schema, it, it.place in unadvised, gains.get(it.pick.shown(), "")),
             *_steps(schema, it, speed),
         ]
     names = ",".join(written_text(f"{it.place}.{it.pick.shown().replace(', ', ',')}") for it in listed)
@@ -75,10 +75,10 @@ def _steps(schema: Schema, made: Made, speed: Speed) -> list[str]:
         about = f"about {space(stored_pages(schema, made.pick) or made.pick.pages)} and {speed.of_index(table)}"
     say = f"\\echo '{made.place}: {made.pick.shown()}, {about}'"
     if table.is_partitioned:
-        return _alone(made, _undo_parts(table, made), [say, *_make_parts(table, made)])
+        return _alone(made, _undo_parts(table, made), [say, *_make_parts(table, made), *made.analyses])
     lines = _make(made, about)
     if made.laid is None:
-        return lines
+        return [*lines, *(_alone(made, [], made.analyses) if made.analyses else [])]
     lay = [*[say] * (not lines), *_lay(made, made.laid, speed.told(table, len(made.indexes)))]
     return [*_alone(made, _stand(made, made.laid), []), *lines, *_alone(made, [], lay)]
 
@@ -219,6 +219,8 @@ def _step(table: Table, made: Made, number: int) -> str:
 def _values(index: Named) -> str:
     """An index as the prepared statements are given it."""
     columns = ", ".join(map(written_text, index.columns))
+    if index.function:
+        columns = f"format('{index.function}(%I)', {columns})"
     return f"{', '.join(map(written_text, (index.where[0], index.name, index.where[1])))}, ARRAY[{columns}]"
 
 

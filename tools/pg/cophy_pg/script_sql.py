@@ -10,12 +10,14 @@ _STATE = """SELECT count(*) FILTER (WHERE NOT is_it) > 0 AS is_other, count(*) F
     count(*) FILTER (WHERE is_it AND (NOT is_valid OR mark = :'mark')) > 0 AS is_own
 FROM (
     SELECT i.indisvalid AND i.indisready AS is_valid, obj_description(c.oid, 'pg_class') AS mark, coalesce(m.nspname = $1 AND t.relname = $3 AND $4 = ARRAY(
-        SELECT a.attname::text FROM unnest(i.indkey::int2[]) WITH ORDINALITY k(number, at)
-        JOIN pg_attribute a ON a.attrelid = i.indrelid AND a.attnum = k.number ORDER BY k.at), false) AS is_it
+        SELECT coalesce(a.attname::text,replace(pg_get_indexdef(c.oid,k.at::int4,true),'::text)',')'))
+        FROM unnest(i.indkey::int2[]) WITH ORDINALITY k(number, at)
+        LEFT JOIN pg_attribute a ON a.attrelid = i.indrelid AND a.attnum = k.number ORDER BY k.at), false) AS is_it
     FROM pg_class c JOIN pg_namespace n ON n.oid = c.relnamespace LEFT JOIN pg_index i ON i.indexrelid = c.oid
     LEFT JOIN pg_class t ON t.oid = i.indrelid LEFT JOIN pg_namespace m ON m.oid = t.relnamespace
     WHERE n.nspname = $1 AND c.relname = $2) found"""
-"""Whether an index is there, and as what: its schema, its name, its table and its columns are the parameters."""
+"""Whether an index is there, and as what: its schema, its name, its table and its columns, or its function of one, which
+PostgreSQL shows with a cast to text, are the parameters."""
 BEGIN = f"""\\set QUIET on
 \\set ON_ERROR_STOP on
 \\set AUTOCOMMIT on

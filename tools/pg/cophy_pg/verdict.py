@@ -10,19 +10,21 @@ from cophy_text.answers import counted
 from cophy_text.shown import percent, share, short, space
 from cophy_pg import folder
 from cophy_pg.closing import (
-    advised_of,
     commands_of,
     doubts_of,
     is_all_advised,
+    is_hint,
+    made_hints,
     member_of,
+    pages_of,
     proof_of,
     recommended_of,
     rows_of,
     time_falls,
 )
 from cophy_pg.folder import Folder
-from cophy_pg.guesses import is_judged, seconds_of, time_saved
-from cophy_pg.expression_hints import hints_shown
+from cophy_pg.guesses import is_judged, saved_of, seconds_of
+from cophy_pg.hints import ALONE, hints_shown
 from cophy_pg.overview import headline, measured, much_skipped, named, part_of, time_of, unhelped, user_of
 from cophy_pg.searches import CUT
 from cophy_pg.speed import duration
@@ -49,6 +51,7 @@ def verdict(document: dict[str, Any], kept: Folder) -> list[str]:
     lines += ["", f"{'MB':>10}{head:>9}  index, for"] * bool(advised)
     wide = max((len(named(it)) for _, it in advised if len(named(it)) <= LONGEST), default=0)
     lines += [_row(at, it, wide) for at, it in advised]
+    lines += [f"* judged by {ALONE}"] * bool(made_hints(document))
     lines += ["", *_unadvised(document), *_rest(document, kept)]
     if picks:
         known = [it["build_seconds"] for _, it in advised or picks if it.get("build_seconds") is not None]
@@ -72,7 +75,7 @@ def _sentence(document: dict[str, Any], count: int) -> str:
         what = headline(document)
         return f"{what[0].upper()}{what[1:]} for {document['database']!a}, {judged}."
     make = f"Make {'this index' if count == 1 else f'these {count} indexes'}"
-    size = space(recommended_of(document)["stored_pages"])
+    size = space(pages_of(document))
     text = f"{make}, {size}: the workload then {_brings(document)}. {_bound(document, count)}"
     return text + f" {judged[0].upper()}{judged[1:]}." * (not _is_well_judged(document))
 
@@ -80,7 +83,8 @@ def _sentence(document: dict[str, Any], count: int) -> str:
 def _brings(document: dict[str, Any]) -> str:
     """What the workload takes less, by the measured time where that is known."""
     before, after = document["server_cost"]["before"], recommended_of(document)["server_cost"]
-    cost, time, falls = share(before - after, before), time_of(document), time_falls(document)
+    hints = sum(it["saves"]["server"] for it in made_hints(document)) / 100 * before
+    cost, time, falls = share(before - after + hints, before), time_of(document), time_falls(document)
     if not time:
         return f"costs {cost} less by the server's planner"
     about = f"{falls:.0f} %" if falls >= 1 else percent(falls)
@@ -112,11 +116,10 @@ def _is_well_judged(document: dict[str, Any]) -> bool:
 
 def _row(at: int, pick: dict[str, Any], wide: int) -> str:
     """An index with its size, what it saves, and the statement that gains the most."""
-    time, user = time_saved(pick), user_of(pick)
-    cost = pick["saves"]["server"] if is_judged(pick) else pick["saves"]["ours"]
-    mark = " " if is_judged(pick) else "~"
+    user = user_of(pick)
+    mark = "*" if is_hint(pick) else " " if is_judged(pick) else "~"
     sql = f"  {short(user['sql'], SQL)}" if user else ""
-    return f"{_begin(at, pick)} {mark}{percent(cost if time is None else time):>7}  {named(pick):<{wide}}{sql}".rstrip()
+    return f"{_begin(at, pick)} {mark}{percent(saved_of(pick)):>7}  {named(pick):<{wide}}{sql}".rstrip()
 
 
 def _begin(at: int, pick: dict[str, Any]) -> str:
@@ -126,19 +129,22 @@ def _begin(at: int, pick: dict[str, Any]) -> str:
 
 def _unadvised(document: dict[str, Any]) -> list[str]:
     """How many picks the script leaves out, whose reasons the details have."""
-    every, made = document["picks"], advised_of(document)
-    count = len(every) - len(made)
+    rows = rows_of(document)
+    count = sum(bool(it.get("caveat")) for _, it in rows)
+    made = len(rows) > count
     if not count:
         return []
     size = space(document["stored_pages"] - recommended_of(document)["stored_pages"])
-    what = f"{count}{' more' * bool(made)} {'is' if count == 1 else 'are'}n't recommended"
-    return [f"{what} ({size}; psql -v all=1 makes {'it' if count == 1 else 'them'}{' too' * bool(made)})"]
+    what = f"{count}{' more' * made} {'is' if count == 1 else 'are'}n't recommended"
+    more = document["stored_pages"] - recommended_of(document)["stored_pages"] + pages_of(document)
+    over = f", {space(more - document['asked_pages'])} over the budget" if more > document["asked_pages"] else ""
+    return [f"{what} ({size}{over}; psql -v all=1 makes {'it' if count == 1 else 'them'}{' too' * made})"]
 
 
 def _rest(document: dict[str, Any], kept: Folder) -> list[str]:
     """What changes the advice, and how much there is to read beside it."""
     lines = []
-    made = advised_of(document) or document["picks"]
+    made = [it for _, it in rows_of(document) if not it.get("caveat")] or document["picks"]
     if names := [*dict.fromkeys(name for it in made for name in it.get("superfluous", []))]:
         lines += [f"then superfluous, so may be dropped once these are in use: {', '.join(names)}"]
     lines += told(document.get("writes", []))
