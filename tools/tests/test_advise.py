@@ -142,7 +142,8 @@ class Advise(OverSql):
         short = self.call(*words).stdout
         self.assertEqual(short, (self.found / "summary.txt").read_text())
         self.assertRegex(
-            short, r"\AMake these \d+ indexes, [0-9.]+ MB: the workload then costs [\d.]+ % less by the server's"
+            short,
+            r"\AMake these \d+ indexes: [0-9.]+ MB of the budget of 20\.0 MB\.\nThey save [\d.]+ % of the cost by the",
         )
         self.assertRegex(short, r"\n 1\. +[\d.]+  +[\d.]+ %  sales_orders\(total\) +SELECT id FROM sales")
         self.assertLessEqual(len(short.split()), 180)

@@ -1,8 +1,6 @@
 """What `advise` prints: a verdict, the indexes, and the one command that makes them. All else is counted."""
 from __future__ import annotations
 
-import re
-import textwrap
 from typing import Any
 
 from cophy_text import files
@@ -12,7 +10,6 @@ from cophy_pg import folder
 from cophy_pg.closing import (
     commands_of,
     doubts_of,
-    is_all_advised,
     is_hint,
     made_hints,
     member_of,
@@ -30,9 +27,6 @@ from cophy_pg.searches import CUT
 from cophy_pg.speed import duration
 from cophy_pg.writes import told
 
-WIDTH, KEPT = 100, "\N{NO-BREAK SPACE}"
-UNIT = re.compile(r"(?<=\d) (?=(?:%|s|MB|GB)(?!\w))")
-"""No line ends between a number and its unit."""
 SQL, LONGEST = 34, 40
 """So many characters of a statement are shown, and such a name of an index has others in its column."""
 MOST_WARNINGS = 2
@@ -45,8 +39,7 @@ def verdict(document: dict[str, Any], kept: Folder) -> list[str]:
     """The summary of a document whose files are in a folder."""
     picks = rows_of(document)
     advised = [it for it in picks if not it[1].get("caveat")]
-    sentence = UNIT.sub(KEPT, _sentence(document, len(advised)))
-    lines = [it.replace(KEPT, " ") for it in textwrap.wrap(sentence, WIDTH, break_on_hyphens=False)]
+    lines = _sentences(document, len(advised))
     head = "time" if time_of(document) else "saves"
     lines += ["", f"{'MB':>10}{head:>9}  index, for"] * bool(advised)
     wide = max((len(named(it)) for _, it in advised if len(named(it)) <= LONGEST), default=0)
@@ -68,50 +61,44 @@ def _locks(document: dict[str, Any]) -> bool:
     return any(it.get("clustered") for it in document["picks"])
 
 
-def _sentence(document: dict[str, Any], count: int) -> str:
-    """What to do, what that brings, and how sure it is."""
-    judged = f"judged by {part_of(document)}"
+def _sentences(document: dict[str, Any], count: int) -> list[str]:
+    """What to do, what that brings, and how far it is from the best, a line each."""
     if not count:
         what = headline(document)
-        return f"{what[0].upper()}{what[1:]} for {document['database']!a}, {judged}."
-    make = f"Make {'this index' if count == 1 else f'these {count} indexes'}"
-    size = space(pages_of(document))
-    text = f"{make}, {size}: the workload then {_brings(document)}. {_bound(document, count)}"
-    return text + f" {judged[0].upper()}{judged[1:]}." * (not _is_well_judged(document))
+        return [f"{what[0].upper()}{what[1:]} for {document['database']!a}, judged by {part_of(document)}."]
+    make, they = ("this index", "It saves") if count == 1 else (f"these {count} indexes", "They save")
+    return [
+        f"Make {make}: {space(pages_of(document))} of the budget of {space(document['asked_pages'])}.",
+        f"{they} {_saved(document)}.",
+        f"{_best(document)} by our model ({proof_of(document)}).",
+    ]
 
 
-def _brings(document: dict[str, Any]) -> str:
-    """What the workload takes less, by the measured time where that is known."""
+def _saved(document: dict[str, Any]) -> str:
+    """What is saved of the measured time where that is known, or else of the cost."""
+    if time := time_of(document):
+        falls = time_falls(document)
+        about = f"{falls:.0f} %" if falls >= 1 else percent(falls)
+        return f"about {about} of {time}, if time falls as the cost by the server's planner does"
     before, after = document["server_cost"]["before"], recommended_of(document)["server_cost"]
     hints = sum(it["saves"]["server"] for it in made_hints(document)) / 100 * before
-    cost, time, falls = share(before - after + hints, before), time_of(document), time_falls(document)
-    if not time:
-        return f"costs {cost} less by the server's planner"
-    about = f"{falls:.0f} %" if falls >= 1 else percent(falls)
-    return (
-        f"takes about {about} less than {time}, if time falls as the server's planner says that cost does (by {cost})"
-    )
+    return f"{share(before - after + hints, before)} of the cost by the server's planner"
 
 
-def _bound(document: dict[str, Any], count: int) -> str:
-    """What is saved by our model, and what no indexes save more than."""
+def _best(document: dict[str, Any]) -> str:
+    """What no indexes save more than."""
     ours, cost = document["cost"], recommended_of(document)["cost"]
-    saved, most = (share(ours["before"] - it, ours["before"]) for it in (cost, ours["bound"]))
     if cost == ours["bound"]:
-        return f"By our model it is {saved}, and no indexes within this budget save more ({proof_of(document)})."
-    # What isn't recommended is part of the rest, and is counted below.
-    gap = document.get("gap") if is_all_advised(document) else None
-    rest = f"; the rest is mostly {gap['index']}: {gap['why']}" if gap else ""
-    these = "this saves" if count == 1 else "these save"
-    text = f"No indexes within this budget save more than {most} by our model, by which {these} {saved}"
-    return f"{text} ({proof_of(document)}{rest})."
+        return "No indexes within the budget save more"
+    more = share(cost - ours["bound"], ours["before"])
+    return f"Others within the budget save at most {'0.1 %' if more == '0.0 %' else more} of the cost more"
 
 
 def _is_well_judged(document: dict[str, Any]) -> bool:
-    """Whether the statements that were priced have nearly all of the measured time."""
+    """Whether the statements that were priced have nearly all of the measured time, or are all where that isn't known."""
     every = document["statements"]
     whole, priced = seconds_of(every), seconds_of(it for it in every if it["numbers"])
-    return bool(whole) and (priced or 0.0) >= WELL_JUDGED * (whole or 0.0)
+    return (priced or 0.0) >= WELL_JUDGED * whole if whole else all(it["numbers"] for it in every)
 
 
 def _row(at: int, pick: dict[str, Any], wide: int) -> str:
@@ -149,6 +136,8 @@ def _rest(document: dict[str, Any], kept: Folder) -> list[str]:
         lines += [f"then superfluous, so may be dropped once these are in use: {', '.join(names)}"]
     lines += told(document.get("writes", []))
     lines += [*hints_shown(document), *unhelped(document)]
+    if rows_of(document) and not _is_well_judged(document):
+        lines += [f"judged by {part_of(document)}"]
     if much := much_skipped(document):
         what = "time" if measured(document) == "seconds" else "calls"
         lines += [f"no index is advised for skipped statements with {much} of the {what}"]
