@@ -65,7 +65,7 @@ class Summary(unittest.TestCase):
         lines, warned = lines_of(self.document), "   rests on a guess, a range whose end isn't known, and on 0.67 % of"
         head = "2 of 3 statements with 66.7 % of the 4.5 s measured; advised in 1.2 s"
         self.assertIn(head, lines[0])
-        row = r"80\.0 +88\.9 +30\.0  statement 1, 0\.02 s: SELECT .*; also 7; 2 loses\Z"
+        row = r"80\.0 +88\.9 +30\.0  statement 1, 0\.02 s: WHERE b = '<script>.*; also 7; 2 loses\Z"
         head = "        size our model    server      time  % saved; statement, measured time"
         self.assertEqual(lines[2], head)
         create, cluster = self.document["picks"][0]["statements"]
@@ -123,7 +123,7 @@ class Summary(unittest.TestCase):
         self.assertEqual(lines[: lines.index("")], first)
         at = next(at for at, it in enumerate(lines) if it.startswith(" 1."))
         self.assertEqual(lines[at - 1], "        MB     time  index, for")
-        self.assertRegex(lines[at], r" 1\.    0\.2   10\.0 %  t0\(a\) +SELECT customer_name, count\(\*\).*")
+        self.assertRegex(lines[at], r" 1\.    0\.2   10\.0 %  t0\(a\) +FROM t WHERE b = '<script>alert\.\.\.")
         self.assertEqual(
             lines[-5:-3],
             ["all else: /home/you/advice/details.txt", "make them (about 37 seconds, reads and writes go on):"],
@@ -139,6 +139,28 @@ class Summary(unittest.TestCase):
         self.document["recommended"]["picks"], self.document["picks"] = 1, self.document["picks"][:1]
         self.assertEqual(self.verdict()[0], "Make this index: 20.0 MB of the budget of 2,048.0 MB.")
         self.assertTrue(self.verdict()[1].startswith("It saves about 83 % of the 1.6 s measured"))
+
+    def test_indexes_that_save_little_share_a_row(self) -> None:
+        self.five()
+        self.document["statements"][0]["sql"] = "SELECT a, b FROM t0, t1 WHERE t1.b > 5 AND t0.a = 3"
+        for it, planned in zip(self.document["picks"], (10.0, 1.0, 0.9, 0.04, 0.06), strict=True):
+            it["saves"] = {"ours": 9.0, "server": 2.0, "measured": planned, "planned": planned}
+        for it, ours in zip(self.document["picks"][2:], (2.0, 2.44, 0.0), strict=True):
+            it["saves"] |= {"ours": ours, "server": 0.5}
+        lines = self.verdict()
+        at = next(at for at, it in enumerate(lines) if it.startswith(" 1."))
+        wanted = [
+            " 1.    0.2   10.0 %  t0(a)     WHERE a = 3",
+            " 2.    0.2    1.0 %  t1(a, b)  WHERE b > 5",
+            "3-5.   0.5    1.0 %  3 indexes that save less than 1 % each: --min-saving 2.5 leaves them out",
+            "",
+        ]
+        self.assertEqual(lines[at : at + 4], wanted)
+        self.document["picks"][1]["saves"] |= {"ours": 1.0, "server": 1.0}
+        self.assertTrue(self.verdict()[at + 2].endswith(" leaves them out, and 1 more"))
+        # One alone has a row of its own.
+        del self.document["picks"][3:]
+        self.assertTrue(self.verdict()[at + 2].startswith(" 3.    0.2    0.9 %  t2(a, b, c)  FROM t0"))
 
     def test_where_some_time_isnt_known_the_verdict_is_of_the_servers_cost(self) -> None:
         self.five()

@@ -123,7 +123,7 @@ def indexes_in(statement: Statement, schema: Schema) -> set[ExpressionIndex]:
             parts = [*_parts(query.fromClause or ())]
             sources = {_name(it): tables[key] for it in parts if (key := _key(it)) in tables}
             conditions = [query.whereClause, *(it.quals for it in parts if isinstance(it, ast.JoinExpr))]
-            compared = [side for it in conditions for one in _joined(it) for side in _sides(one)]
+            compared = [side for it in conditions for one in joined(it) for side in _sides(one)]
             found |= {it for side, other in compared if (it := _index_of(side, other, sources)) is not None}
     return found
 
@@ -147,11 +147,11 @@ def _name(node: Any) -> str:
     return str(node.alias.aliasname if node.alias else node.relname)
 
 
-def _joined(node: Any) -> Iterator[Any]:
+def joined(node: Any) -> Iterator[Any]:
     """The conditions that are joined by AND."""
     if isinstance(node, ast.BoolExpr) and node.boolop == BoolExprType.AND_EXPR:
         for it in node.args:
-            yield from _joined(it)
+            yield from joined(it)
     else:
         yield node
 

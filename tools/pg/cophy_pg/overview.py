@@ -10,6 +10,7 @@ from cophy_pg.closing import costs, is_hint, last_of, pages_of, recommended_of, 
 from cophy_pg.expression_hints import SAME
 from cophy_pg.guesses import doubt_of, gains, saved_of, seconds_of, time_saved, warning_of
 from cophy_pg.hints import ALONE, hinted, hints_told
+from cophy_pg.purpose import purpose_of
 from cophy_pg.recommended import KINDS, LITTLE
 from cophy_pg.rewrite.parse import without_literals
 from cophy_pg.speed import duration
@@ -212,7 +213,7 @@ def _pick(at: int, pick: dict[str, Any], document: dict[str, Any]) -> list[str]:
         "not taken": "a rule asks for it, no plan takes it",
     }[pick.get("outcome", "taken")]
     lines = [f"{at}. {it}" if n == 0 else f"   {it}" for n, it in enumerate(pick["statements"])]
-    lines += [f"   {space(pick['stored_pages']):>9} {_shares(pick)}  {_for(pick)}"]
+    lines += [f"   {space(pick['stored_pages']):>9} {_shares(pick)}  {_for(pick, document)}"]
     lines += [f"   {taken}"] if taken else []
     caveat, fails = pick.get("caveat"), warning(pick.get("long", []))
     why = f"not recommended: {caveat}" if caveat else doubt_of(pick) or warning_of(pick, document)
@@ -223,14 +224,21 @@ def _pick(at: int, pick: dict[str, Any], document: dict[str, Any]) -> list[str]:
     return lines + [f"   {it}" for it in pick["notes"]]
 
 
-def _for(pick: dict[str, Any]) -> str:
+def purpose(pick: dict[str, Any], change: dict[str, Any], document: dict[str, Any], most: int) -> str:
+    """What a statement asks of a pick or a hint."""
+    numbers = change["numbers"]
+    sql = next((it["sql"] for it in document["statements"] if numbers and it["numbers"] == numbers), change["sql"])
+    return purpose_of(sql, pick["table"], pick["columns"], most)
+
+
+def _for(pick: dict[str, Any], document: dict[str, Any]) -> str:
     """The statement that gains the most by a pick, and which others gain or lose."""
     found = gains(pick)
     if not found:
         return "less than 0.1 % in each statement"
     first, *others = found
     losing = [it for it in pick["changes"] if is_seen(it) and it not in found]
-    text = f"{name_of(first)}, {_measured_time([first])}: {short(first['sql'], SQL)}"
+    text = f"{name_of(first)}, {_measured_time([first])}: {purpose(pick, first, document, SQL)}"
     text += f"; also {_all_of(others)}" if others else ""
     return text + (f"; {_all_of(losing)} lose{'s' * (len(losing) == 1)}" if losing else "")
 

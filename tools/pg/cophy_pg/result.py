@@ -11,7 +11,7 @@ from cophy_text.shown import short
 from cophy_pg.choice import Choice
 from cophy_pg.ddl import Made, create, taken_names
 from cophy_pg.expression_hints import Hint
-from cophy_pg.guesses import is_guessed, is_judged, time_saved, whole_of
+from cophy_pg.guesses import is_guessed, saved_of, whole_of
 from cophy_pg.hints import Found, documents_of
 from cophy_pg.outcomes import ORDINARY, Outcome
 from cophy_pg.plans import Plans
@@ -282,11 +282,8 @@ class Result:
 
 
 def place_of(pick: dict[str, Any]) -> tuple[float, int]:
-    """What picks are put in order by: what they save of the measured time, where that is known; or else what the server says
-    that they save of the cost, where it says so, or the most."""
-    saves, time = pick["saves"], time_saved(pick)
-    cost = saves["server"] if is_judged(pick) else max(saves["ours"], saves["server"])
-    return -(cost if time is None else time), pick["number"]
+    """What picks are put in order by: what is printed that they save."""
+    return -saved_of(pick), pick["number"]
 
 
 def _index(pick: Candidate) -> dict[str, Any]:

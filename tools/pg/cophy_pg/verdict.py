@@ -1,11 +1,12 @@
 """What `advise` prints: a verdict, the indexes, and the one command that makes them. All else is counted."""
 from __future__ import annotations
 
+import math
 from typing import Any
 
 from cophy_text import files
 from cophy_text.answers import counted
-from cophy_text.shown import percent, share, short, space
+from cophy_text.shown import percent, share, space
 from cophy_pg import folder
 from cophy_pg.closing import (
     commands_of,
@@ -22,7 +23,8 @@ from cophy_pg.closing import (
 from cophy_pg.folder import Folder
 from cophy_pg.guesses import is_judged, saved_of, seconds_of
 from cophy_pg.hints import ALONE, hints_shown
-from cophy_pg.overview import headline, measured, much_skipped, named, part_of, time_of, unhelped, user_of
+from cophy_pg.overview import headline, measured, much_skipped, named, part_of, purpose, time_of, unhelped, user_of
+from cophy_pg.recommended import KINDS, LITTLE
 from cophy_pg.searches import CUT
 from cophy_pg.speed import duration
 from cophy_pg.writes import told
@@ -31,6 +33,7 @@ SQL, LONGEST = 34, 40
 """So many characters of a statement are shown, and such a name of an index has others in its column."""
 MOST_WARNINGS = 2
 """Where there are no more warnings, the summary has them, each up to what ends it."""
+Row = tuple[int, dict[str, Any]]
 WELL_JUDGED = 0.9
 """Where the statements that were priced have this part of the measured time, that isn't told."""
 
@@ -42,8 +45,7 @@ def verdict(document: dict[str, Any], kept: Folder) -> list[str]:
     lines = _sentences(document, len(advised))
     head = "time" if time_of(document) else "saves"
     lines += ["", f"{'MB':>10}{head:>9}  index, for"] * bool(advised)
-    wide = max((len(named(it)) for _, it in advised if len(named(it)) <= LONGEST), default=0)
-    lines += [_row(at, it, wide) for at, it in advised]
+    lines += _rows(advised, document)
     lines += [f"* judged by {ALONE}"] * bool(made_hints(document))
     lines += ["", *_unadvised(document), *_rest(document, kept)]
     if picks:
@@ -101,17 +103,42 @@ def _is_well_judged(document: dict[str, Any]) -> bool:
     return (priced or 0.0) >= WELL_JUDGED * whole if whole else all(it["numbers"] for it in every)
 
 
-def _row(at: int, pick: dict[str, Any], wide: int) -> str:
-    """An index with its size, what it saves, and the statement that gains the most."""
+def _rows(advised: list[Row], document: dict[str, Any]) -> list[str]:
+    """A row for each index, in the order of their numbers, and one for all that save little, where they are several."""
+    little = [it for it in advised if saved_of(it[1]) < LITTLE]
+    shown = [it for it in advised if it not in little] if little[1:] else advised
+    wide = max((len(named(it)) for _, it in shown if len(named(it)) <= LONGEST), default=0)
+    lines = {at: _row(at, it, wide, document) for at, it in shown}
+    if little[1:]:
+        lines[little[0][0]] = _together(little, [it for _, it in shown if not is_hint(it)])
+    return [lines[at] for at in sorted(lines)]
+
+
+def _row(at: int, pick: dict[str, Any], wide: int, document: dict[str, Any]) -> str:
+    """An index with its size, what it saves, and what the statement that gains the most asks of it."""
     user = user_of(pick)
     mark = "*" if is_hint(pick) else " " if is_judged(pick) else "~"
-    sql = f"  {short(user['sql'], SQL)}" if user else ""
-    return f"{_begin(at, pick)} {mark}{percent(saved_of(pick)):>7}  {named(pick):<{wide}}{sql}".rstrip()
+    sql = f"  {purpose(pick, user, document, SQL)}" if user else ""
+    begin = _begin(f"{at}.", pick["stored_pages"])
+    return f"{begin} {mark}{percent(saved_of(pick)):>7}  {named(pick):<{wide}}{sql}".rstrip()
 
 
-def _begin(at: int, pick: dict[str, Any]) -> str:
-    size = space(pick["stored_pages"])
-    return f"{at:>2}. {size.removesuffix(' MB'):>6}" if size.endswith(" MB") else f"{at:>2}. {size}"
+def _together(little: list[Row], others: list[dict[str, Any]]) -> str:
+    """Picks that save little with what they take and save together, and the option that leaves them out."""
+
+    def most(pick: dict[str, Any]) -> float:
+        return max(pick["saves"].get(it) or 0.0 for it in KINDS)
+
+    option = math.floor(10 * max(most(it) for _, it in little) + 1) / 10
+    more = sum(most(it) < option for it in others)
+    begin = _begin(f"{little[0][0]}-{little[-1][0]}.", sum(it["stored_pages"] for _, it in little))
+    what = f"{len(little)} indexes that save less than {LITTLE} % each: --min-saving {option:g} leaves them out"
+    return f"{begin}  {percent(sum(saved_of(it) for _, it in little)):>7}  {what}" + f", and {more} more" * (more > 0)
+
+
+def _begin(number: str, pages: int) -> str:
+    size = space(pages).removesuffix(" MB")
+    return f"{number:>3} {size:>{9 - max(3, len(number))}}"
 
 
 def _unadvised(document: dict[str, Any]) -> list[str]:

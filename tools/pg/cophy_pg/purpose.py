@@ -1,0 +1,83 @@
+"""What a statement asks of an index, in a few words: what like statements have in common, as their select list, is left out."""
+from __future__ import annotations
+
+import re
+from collections.abc import Iterable
+from typing import Any
+
+from pglast import ast
+from pglast.parser import ParseError
+from pglast.stream import RawStream
+
+from cophy_text.shown import short
+from cophy_pg.expression_hints import joined
+from cophy_pg.rewrite.expressions import nodes_of
+from cophy_pg.rewrite.parse import parsed
+
+_FROM = re.compile(r"\bFROM\b", re.IGNORECASE)
+CLAUSES = {"sortClause": "ORDER BY", "groupClause": "GROUP BY"}
+
+
+def purpose_of(sql: str, table: str, columns: Iterable[str], most: int) -> str:
+    """Of a statement the conditions with a column of an index, behind WHERE wherever they stand; or else what it orders or groups
+    by with one; or else what begins with its first FROM; all of it where it has none or can't be parsed. The names of table and
+    columns are those of the catalogue; one may stand within a function."""
+    try:
+        served = _served(parsed(sql), table, {it for shown in columns for it in re.findall(r"\w+", shown.lower())})
+    except (ParseError, RecursionError, ValueError):
+        return short(sql, most)
+    found = _FROM.search(sql)
+    return short(served or sql[found.start() if found else 0 :], most)
+
+
+def _served(tree: Any, table: str, columns: set[str]) -> str:
+    """The part of a statement that an index serves; nothing where that isn't seen."""
+    names = {_visible(it) for it in nodes_of(tree) if isinstance(it, ast.RangeVar) and _is_of(it, table)}
+
+    def has(node: Any) -> bool:
+        return any(_is_in(it, names, columns) for it in nodes_of(node))
+
+    nodes = [*nodes_of(tree)]
+    conditions = [it for node in nodes for name in ("whereClause", "quals") for it in joined(getattr(node, name, None))]
+    plain = [
+        it for it in conditions if it is not None and not any(isinstance(one, ast.SubLink) for one in nodes_of(it))
+    ]
+    if served := [it for it in plain if has(it)]:
+        return f"WHERE {' AND '.join(dict.fromkeys(_written(it, len(served) > 1) for it in served))}"
+    for name, words in CLAUSES.items():
+        clauses = [it for node in nodes if has(it := getattr(node, name, None) or ())]
+        if clauses:
+            return f"{words} {', '.join(map(_written, clauses[0]))}"
+    return ""
+
+
+def _visible(node: Any) -> str:
+    return str(node.alias.aliasname if node.alias else node.relname).lower()
+
+
+def _is_of(node: Any, table: str) -> bool:
+    """Whether a name is that of a table of the catalogue, which may have its schema before it."""
+    return table.lower().endswith(_cleaned(node.relname))
+
+
+def _is_in(node: Any, names: set[str], columns: set[str]) -> bool:
+    """Whether this is one of some columns of a table with one of these names, or may be."""
+    if not isinstance(node, ast.ColumnRef) or not isinstance(node.fields[-1], ast.String):
+        return False
+    *before, column = (str(it.sval) for it in node.fields)
+    return _cleaned(column) in columns and (not before or before[-1].lower() in names)
+
+
+def _cleaned(name: str) -> str:
+    """A name as the catalogue has it."""
+    return re.sub(r"[^a-z0-9_]", "_", name.lower())
+
+
+def _written(node: Any, is_one_of_many: bool = False) -> str:
+    """A condition, in which columns stand without their table where all are of one."""
+    found = [it for it in nodes_of(node) if isinstance(it, ast.ColumnRef) and len(it.fields) > 1]
+    if len({tuple(part.sval for part in it.fields[:-1] if isinstance(part, ast.String)) for it in found}) == 1:
+        for it in found:
+            it.fields = it.fields[-1:]
+    text = str(RawStream()(node))
+    return f"({text})" if is_one_of_many and isinstance(node, ast.BoolExpr) else text
