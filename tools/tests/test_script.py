@@ -3,10 +3,14 @@ from __future__ import annotations
 
 import os
 import re
+import signal
+import subprocess
 import unittest
 
 from cophy_pg.included import searched_columns
 from fixtures import MISSING, OverOwn
+from patience import LONG, until
+from private_server import program
 
 TABLES = """CREATE TABLE plain (id int PRIMARY KEY, a int, b int, c text);
 INSERT INTO plain SELECT i, i % 70, i % 9, 'c' || i FROM generate_series(1, 9000) i;
@@ -178,7 +182,9 @@ class Script(OverOwn):
         self.server.psql("DROP INDEX parted_kind_idx", "making")
         self.server.psql(f'CREATE INDEX "{part}" ON parted_one (kind); {spoil.format(part)}', "making")
         self.assertIn(f"{part} INVALID", self.names())
-        self.assertIn("an earlier run left it INVALID", self.run_script(text))
+        said = self.run_script(text)
+        for what in ("it", "that of parted_one"):
+            self.assertEqual(said.count(f"an earlier run left {what} INVALID, so it is dropped first\n"), 1, said)
         self.assertEqual(self.names(), made)
         self.server.psql("DROP INDEX parted_kind_idx", "making")
         self.server.psql(f'CREATE INDEX "{part}" ON parted_one (kind)', "making")
@@ -197,6 +203,38 @@ class Script(OverOwn):
         self.assertEqual(self.names(), ["plain_a_idx", "plain_b_idx"])
         self.run_script(text, "-v", "undo=1")
         self.assertEqual(self.names(), [])
+
+    def test_what_a_run_that_was_broken_off_left_is_made_again(self) -> None:
+        text = self.script(("plain(a)", "plain(b)"))
+        words = [str(program("psql")), "-X", "-f", "-"]
+        given = self.server.environment("making", PGAPPNAME="broken")
+        waits = "SELECT count(*) FROM pg_stat_activity WHERE application_name = 'broken' AND wait_event_type = 'Lock'"
+        end = "SELECT pg_terminate_backend(pid) FROM pg_stat_activity WHERE application_name = 'broken'"
+        for how in ("Ctrl-C", "the session ends"):
+            with self.subTest(how=how), self.held("UPDATE plain SET b = b WHERE id = 1"):
+                with subprocess.Popen(
+                    words, stdin=subprocess.PIPE, stdout=subprocess.PIPE, stderr=subprocess.STDOUT, text=True, env=given
+                ) as ran:
+                    assert ran.stdin is not None
+                    ran.stdin.write(text)
+                    ran.stdin.close()
+                    ran.stdin = None
+                    until(lambda: self.server.value(waits, "making") == "1", "the script waits for the other session")
+                    if how == "Ctrl-C":
+                        ran.send_signal(signal.SIGINT)
+                    else:
+                        self.server.value(end, "making")
+                    said, _ = ran.communicate(timeout=LONG)
+                self.assertNotEqual(ran.returncode, 0, said)
+                self.assertNotIn("done\n", said)
+                self.assertEqual(self.names(), ["plain_a_idx INVALID"])
+            said = self.run_script(text)
+            self.assertIn(
+                "1: plain(a), about 0.1 MB and 1 second\nan earlier run left it INVALID, so it is dropped first\n", said
+            )
+            self.assertEqual(self.names(), ["plain_a_idx", "plain_b_idx"])
+            self.run_script(text, "-v", "undo=1")
+            self.assertEqual(self.names(), [])
 
     def test_what_others_made_stays(self) -> None:
         text, other = self.script(("plain(a)", "plain(b)")), self.script(("plain(b)", "plain(a)", "parent(a)"))

@@ -112,7 +112,7 @@ def _told(schema: Schema, listed: list[Made], speed: Speed, unadvised: Sequence[
     if any(it.laid is not None for it in making):
         lines += ["-- CLUSTER locks its table against all others, readers too."]
     lines += [
-        "-- The owner of the tables runs it: psql -X -f FILE. At a fault it stops and says so: run it again then."
+        "-- The owner of the tables runs it: psql -X -f FILE. After a fault or Ctrl-C run it again: INVALID ones are made anew."
     ]
     lines += ["-- With -v undo=1 it drops what it made, and nothing else; -v without=N,N passes over these numbers."]
     lines += ["-- What isn't recommended is made with -v all=1 alone."] * bool(unadvised)
@@ -179,7 +179,8 @@ def _is_laid(laid: Laid) -> str:
 
 def _make_parts(table: Table, made: Made) -> list[str]:
     state, mark = _state(made.indexes[0]), _mark(made.indexes[0])
-    lines = ["SET lock_timeout TO :'patient';", state, *_refuse_other(made), _step(table, made, 1)]
+    lines = ["SET lock_timeout TO :'patient';", state, *_refuse_other(made)]
+    lines += [_step(table, made, 0), _step(table, made, 1)]
     lines += [
         "SET lock_timeout TO :'brief';",
         _step(table, made, 2),

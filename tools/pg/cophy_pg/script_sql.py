@@ -105,6 +105,8 @@ WITH tree AS (
     LEFT JOIN pg_index i ON i.indexrelid = x.oid AND i.indrelid = t.relid
 )
 SELECT '{OWN} ' || CASE $1
+    WHEN 0 THEN format('SELECT %L', format('an earlier run left that of %s INVALID, so it is dropped first',
+        regexp_replace(relname, '[^A-Za-z0-9_]', '?', 'g')))
     WHEN 1 THEN format('DROP INDEX CONCURRENTLY %I.%I', nspname, index)
     WHEN 2 THEN format('CREATE INDEX %I ON ONLY %I.%I %s', index, nspname, relname, $5)
     WHEN 3 THEN format('CREATE INDEX CONCURRENTLY %I ON %I.%I %s', index, nspname, relname, $5)
@@ -112,6 +114,7 @@ SELECT '{OWN} ' || CASE $1
     ELSE format('DROP INDEX CONCURRENTLY %I.%I', nspname, index) END
 FROM parts
 WHERE CASE $1
+    WHEN 0 THEN relkind = 'r' AND NOT is_valid
     WHEN 1 THEN relkind = 'r' AND NOT is_valid
     WHEN 2 THEN relkind = 'p' AND indexrelid IS NULL
     WHEN 3 THEN relkind = 'r' AND indexrelid IS NULL
@@ -119,7 +122,7 @@ WHERE CASE $1
     ELSE relkind = 'r' AND indexrelid IS NOT NULL AND NOT is_attached END
 ORDER BY CASE $1 WHEN 4 THEN -level ELSE level END, nspname, relname;
 """
-"""The steps of a partitioned table, by their numbers: what an earlier run left INVALID is dropped, the indexes of what has
+"""The steps of a partitioned table, by their numbers: what an earlier run left INVALID is told and then dropped, the indexes of what has
 parts are made alone, those of the parts, and these are attached; the fifth drops what isn't attached."""
 LAID = f"""PREPARE cophy_laid (text, text, text) AS {OWN}
 SELECT count(*) > 0 AS is_laid FROM pg_index i JOIN pg_class x ON x.oid = i.indexrelid
