@@ -4,13 +4,14 @@ from __future__ import annotations
 import base64
 import hashlib
 import hmac
+import re
 import shlex
 import stat
 import subprocess
 import unittest
 from pathlib import Path
 
-from fixtures import ADVISOR, NO_HYPOPG, InFolder, called
+from fixtures import ADVISOR, NO_HYPOPG, ROOT, InFolder, called
 from private_server import PrivateServer, program
 
 
@@ -53,6 +54,28 @@ class Setup(InFolder):
         # Here each role connects without a password, so none is made.
         self.assertFalse((self.folder / ".pgpass").exists())
         self.assertEqual(self.call(self.server, "odd").stdout.splitlines()[1:], [names, command])
+
+    def test_what_it_made_is_taken_back_as_the_page_says(self) -> None:
+        other = PrivateServer()
+        self.addCleanup(other.stop)
+        other.psql("CREATE DATABASE odd; CREATE ROLE boss; CREATE ROLE you LOGIN; GRANT boss TO you")
+        other.psql("CREATE TABLE t (a int); ALTER TABLE t OWNER TO boss", "odd")
+        other.psql("GRANT CREATE ON SCHEMA public TO boss", "odd")
+        self.call(other, "odd")
+        other.psql("CREATE INDEX made ON t (a)", "odd", PGUSER="you")
+        page = (ROOT / "docs" / "POSTGRES.md").read_text().partition("\n## To take it all back\n")[2]
+        (block,) = re.findall(r"(?m)^```sql needs-server\n([^`]+)^```$", page)
+        (more,) = re.findall(r"`(DROP EXTENSION pg_stat_statements; .*?)`", page)
+        other.psql(more + block, "odd")
+        # Which `dropuser` does.
+        other.psql("DROP ROLE you")
+        left = "SELECT string_agg(rolname, ' ') FROM pg_roles WHERE rolname !~ '^pg_'"
+        self.assertEqual({*other.value(left).split()}, {"cophy", "boss"})
+        left = "SELECT string_agg(nspname, ' ') FROM pg_namespace WHERE nspname IN ('hypopg', 'counted')"
+        self.assertEqual(other.value(left, "odd"), "")
+        self.assertEqual(
+            other.value("SELECT pg_get_userbyid(relowner) FROM pg_class WHERE relname = 'made'", "odd"), "boss"
+        )
 
     def test_a_server_that_counts_nothing_is_told_with_the_lines_that_mend_it(self) -> None:
         other = PrivateServer(settings=("shared_preload_libraries=auto_explain",))
