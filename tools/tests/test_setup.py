@@ -11,7 +11,7 @@ import subprocess
 import unittest
 from pathlib import Path
 
-from fixtures import ADVISOR, NO_HYPOPG, ROOT, InFolder, called
+from fixtures import ADVISOR, NO_HYPOPG, ROOT, STAND_IN, InFolder, called
 from private_server import PrivateServer, program
 
 
@@ -43,8 +43,7 @@ class Setup(InFolder):
         self.assertRegex(ran.stderr, r"\Acophy-pg: statements have been counted for .* alone: a working day.*\n\Z")
         first, names, command = ran.stdout.splitlines()
         self.assertRegex(
-            first,
-            r"\Acophy_advisor may read 'odd', where hypopg is in schema \S+ and \d+ statements are counted\. Next:\Z",
+            first, r"\Acophy_advisor may read 'odd', where hypopg is in schema \S+ and 1 statement is counted\. Next:\Z"
         )
         self.assertEqual(names, f"export PGHOST={self.server.folder} PGDATABASE=odd PGUSER=cophy_advisor")
         self.assertTrue(command.endswith("cophy-pg advise --budget 2MB"), command)
@@ -54,6 +53,23 @@ class Setup(InFolder):
         # Here each role connects without a password, so none is made.
         self.assertFalse((self.folder / ".pgpass").exists())
         self.assertEqual(self.call(self.server, "odd").stdout.splitlines()[1:], [names, command])
+
+    def test_it_counts_as_advise_does_and_itself_not_at_all(self) -> None:
+        other = PrivateServer()
+        self.addCleanup(other.stop)
+        other.psql("CREATE DATABASE odd")
+        other.psql("CREATE TABLE t AS SELECT i AS a FROM generate_series(1, 9000) i; ANALYZE t", "odd")
+        other.psql("CREATE SCHEMA counted; CREATE EXTENSION pg_stat_statements SCHEMA counted", "odd")
+        other.psql("SELECT counted.pg_stat_statements_reset()", "odd")
+        other.psql("SELECT a FROM t WHERE a = 3; SELECT a FROM t WHERE a > 3; SHOW work_mem", "odd")
+        # That which began to count anew is counted too.
+        self.assertIn(" and 4 statements are counted. Next:\n", self.call(other, "odd").stdout)
+        words = ("advise", "--budget", "9MB", "--folder", str(self.folder / "found"), "--no-curve")
+        more = {"PGUSER": "cophy_advisor", "COPHY_PROGRAM": str(STAND_IN)}
+        ran = called(other, *words, database="odd", **more)
+        self.assertEqual(ran.returncode, 0, ran.stderr)
+        details = (self.folder / "found" / "details.txt").read_text()
+        self.assertIn(" database 'odd', 2 of 4 statements counted with ", details)
 
     def test_what_it_made_is_taken_back_as_the_page_says(self) -> None:
         other = PrivateServer()

@@ -18,6 +18,13 @@
 \if :{?statements} \else
     \set statements kept
 \endif
+-- What is done here is none of the statements to advise on.
+/* cophy-pg */ DO $$
+BEGIN
+    PERFORM pg_catalog.set_config('pg_stat_statements.track', 'none', false);
+EXCEPTION WHEN insufficient_privilege THEN
+    NULL;
+END $$;
 SET search_path TO pg_catalog, pg_temp;
 SET client_min_messages TO warning;
 SELECT NOT EXISTS (SELECT FROM pg_catalog.pg_roles WHERE rolname = 'cophy_advisor') AS is_new,

@@ -19,10 +19,10 @@ from cophy_text import files
 from cophy_text.answers import counted
 from cophy_pg.no_connection import failed
 from cophy_pg.picks import home_of
-from cophy_pg.inputs import EXTENSION, NoInput, tell_short
+from cophy_pg.export import HIDDEN
+from cophy_pg.inputs import NoInput, from_server, tell_short
 from cophy_pg.progress import say
-from cophy_pg.server import OWN, UNKNOWN, Server, ServerFault, connected, quoted_name, reading, reason
-from cophy_pg.trust import view_of
+from cophy_pg.server import OWN, UNKNOWN, Server, ServerFault, connected, reading, reason
 
 ROLE = "cophy_advisor"
 SCRIPT = Path(__file__).resolve().parent / "advisor_role.sql"
@@ -31,10 +31,6 @@ LOCAL = ("localhost", "127.0.0.1", "::1")
 HYPOPG = (
     "the extension hypopg is missing: install it (apt-get install postgresql-NN-hypopg, NN being the server's version)"
 )
-_COUNT = f"""SELECT count(*) FROM {{}} s JOIN pg_catalog.pg_roles r ON r.oid = s.userid
-WHERE strpos(query, '{OWN}') = 0 AND r.rolname <> current_user
-AND (NOT r.rolsuper OR query ~* '^\\s*(/[*].*[*]/\\s*)?[(]*(select|insert|update|delete|merge|with|values)\\M')
-AND dbid = (SELECT oid FROM pg_catalog.pg_database WHERE datname = current_database())"""
 _SIZE = f"""SELECT coalesce(sum(pg_relation_size(c.oid)), 0)::int8 FROM pg_class c JOIN pg_namespace n ON n.oid = c.relnamespace
 WHERE c.relkind IN ('r', 'm') AND n.nspname NOT IN ('pg_catalog', 'information_schema') AND n.nspname !~ '^pg_toast'"""
 
@@ -70,7 +66,7 @@ def setup(words: argparse.Namespace) -> int:
     os.environ |= {"PGHOST": host, "PGPORT": port, "PGDATABASE": database, "PGUSER": ROLE}
     if not _is_known():
         secret = secrets.token_urlsafe(24)
-        _run([*superuser, "-d", database], kept, f"ALTER ROLE {ROLE} PASSWORD '{verifier_of(secret)}';")
+        _run([*superuser, "-d", database], kept, f"{OWN} ALTER ROLE {ROLE} PASSWORD '{verifier_of(secret)}';")
         _keep(host, port, secret)
     with connected() as server, reading(server):
         return _tell(server, database, host, port)
@@ -138,9 +134,8 @@ def _tell(server: Server, database: str, host: str, port: str) -> int:
         say("call this again when that is done")
         return 1
     tell_short(server)
-    print(
-        f"{ROLE} may read {database!a}, where hypopg is in schema {home!a} and {counted(count, 'statement')} are counted. Next:"
-    )
+    many = f"{counted(count, 'statement')} {'is' if count == 1 else 'are'} counted"
+    print(f"{ROLE} may read {database!a}, where hypopg is in schema {home!a} and {many}. Next:")
     names = {"PGHOST": host, "PGPORT": port if port != "5432" else "", "PGDATABASE": database, "PGUSER": ROLE}
     print("export " + " ".join(f"{name}={shlex.quote(it)}" for name, it in names.items() if it))
     print(f"{shlex.quote(_called())} advise --budget {fifth_of(int(server.value(_SIZE)))}")
@@ -162,11 +157,10 @@ def _home(server: Server) -> str | None:
 
 
 def _counted(server: Server) -> int | None:
-    """How many statements of the database are counted; nothing where none is, which the script has told."""
-    with suppress(ServerFault), server.savepoint():
-        found = view_of(server, EXTENSION)
-        if found is not None:
-            return int(server.value(_COUNT.format(f"{quoted_name(found[0])}.{EXTENSION}")))
+    """How many statements of the database are counted, as `advise` takes them; nothing where none is, which the script has
+    told."""
+    with suppress(ServerFault, NoInput), server.savepoint():
+        return sum(it.text != HIDDEN for it in from_server(server, lambda _: None))
     return None
 
 
