@@ -5,6 +5,7 @@ import json
 import re
 import shlex
 import unittest
+from collections import Counter
 from html import unescape
 from typing import Any
 from unittest import mock
@@ -18,7 +19,7 @@ if not NO_PARSER:
     from cophy_pg.explain import Statement, statement_of
     from cophy_pg.inputs import Input
     from cophy_pg.expression_hints import ExpressionIndex, Hint, hints_of, indexes_in
-    from cophy_pg.hints import documents_of, hints_shown, hints_told
+    from cophy_pg.hints import Room, documents_of, hints_shown, hints_told
     from cophy_pg.outcomes import Verdict
     from cophy_pg.overview import unhelped
     from cophy_pg.schema import Column, Schema, Table
@@ -85,10 +86,10 @@ class Found(unittest.TestCase):
         statements = [Verdict(at, Input("SELECT", 2, 1.0), {at: 1.0}, None, 50.0, 50.0) for at in range(1, 5)]
         u, v = self.schema.tables.values()
 
-        def found(left: int, *hints: Hint) -> list[tuple[str, float, int | None, str | None]]:
+        def found(pages: int, *hints: Hint, **more: Any) -> list[tuple[str, float, int | None, str | None]]:
             """What is said of hints whose indexes take 100 pages each, where all statements cost 1000 and took 8 s."""
             with mock.patch("cophy_pg.hints.stored_pages", return_value=100):
-                told = [it for it, _ in documents_of(hints, self.schema, 1000.0, 8.0, left)]
+                told = [it for it, _ in documents_of(hints, self.schema, 1000.0, 8.0, Room(pages, **more))]
             return [(it["columns"][0], it["saves"]["planned"], it["missing_pages"], it["why_not"]) for it in told]
 
         # A statement that costs 5 of 50 saves 0.9 s of its second, and 90 of the cost by two calls.
@@ -98,13 +99,17 @@ class Found(unittest.TestCase):
         little = Hint(ExpressionIndex(v, "upper", "b"), [(statements[3], 48.0)])
         self.assertEqual(
             found(210, first, both, same, little),
-            [("upper(b)", 22.5, 0, None), ("lower(a)", 11.25, 0, None), ("upper(b)", 0.5, 90, "it saves 0.5 %")],
+            [("upper(b)", 22.5, 0, None), ("lower(a)", 11.25, 0, None), ("upper(b)", 0.5, 90, "1 % are asked for")],
         )
         much = "it takes 0.4 MB more than the budget leaves"
         self.assertEqual(found(150, first, both), [("upper(b)", 22.5, 0, None), ("lower(a)", 11.25, 50, much)])
         # What isn't made serves no statement.
         self.assertEqual([it[0] for it in found(50, both, same)], ["upper(b)", "lower(b)"])
-        (said,) = documents_of([first], self.schema, 1000.0, None, 9)
+        # A table gets no more than it may, and each saves what is asked for.
+        told = [it[3] for it in found(999, first, both, most_per_table=2, made=Counter(u=1))]
+        self.assertEqual(told, [None, "2 a table are asked for at most"])
+        self.assertEqual(found(999, first, least=12.0)[0][3], "12 % are asked for")
+        (said,) = documents_of([first], self.schema, 1000.0, None, Room(9))
         self.assertEqual(said[0]["saves"], {"server": 9.0, "planned": None})
         with mock.patch("cophy_pg.hints.likely", return_value=["a"]):
             self.assertEqual(found(999, first)[0][3], "an INSERT of more than 2,704 bytes in a would fail")
@@ -243,6 +248,18 @@ class Advised(OverOwn):
             self.assertIn(f"{advised + 1}. customer_user(lower(login))", unescape(self.told("report.html")))
             self.assertIn(INDEX, unescape(self.told("report.html")))
         self.assertFalse([it for it in summary.split("\n") if "helps" in it and "lower(login)" in it])
+
+    def test_one_that_a_rule_leaves_out_isnt_made(self) -> None:
+        rules = self.folder / "rules"
+        for rule, wanted in (
+            ("never public.customer_user.login", []),
+            ("never public.*", []),
+            ("never public.customer_user(login)", [["lower(login)"]]),
+        ):
+            rules.write_text(f"{rule}\n")
+            with self.subTest(rule=rule):
+                found = self.advise(*self.sql(), "--rules", str(rules))
+                self.assertEqual([it["columns"] for it in found["hints"]], wanted)
 
     def test_one_that_takes_too_much_stays_a_hint_that_says_how_much(self) -> None:
         found = self.advise(*self.sql(), budget="0.5MB", status=3)

@@ -23,13 +23,13 @@ from cophy_pg.curve import as_json as as_json_of_point
 from cophy_pg.folder import Folder
 from cophy_pg.folding import Folding
 from cophy_pg.included import searched_columns
-from cophy_pg.expression_hints import hints_of
+from cophy_pg.expression_hints import Hint, hints_of
 from cophy_pg.making import ddl_text, in_order
 from cophy_pg.outcomes import Verdict
 from cophy_pg.overview import gain_of, lines_of, named
 from cophy_pg.page import NoReport, page_of
 from cophy_pg.picks import home_of
-from cophy_pg.plans import plans_of
+from cophy_pg.plans import Plans, plans_of
 from cophy_pg.program import Program, is_unproved, program_file
 from cophy_pg.progress import say
 from cophy_pg.ranking import rank
@@ -121,12 +121,7 @@ class Run:
             with connected(self.words.dsn, self.words.timeout) as server:
                 choice, judged = rounds.best(server, first)
                 self.steps.begin("")
-                with self.steps.step("plans", "comparing plans", 2 * len(judged.verdicts)):
-                    plans = plans_of(server, found.schema, choice.advice, judged.verdicts, self.steps)
-                with self.steps.step("hints", "looking for indexes that our model doesn't know"):
-                    hints = hints_of(server, found.schema, choice.advice, judged.verdicts, self.steps)
-                tables = {it.table for it in choice.advice.picks} | {it.index.table.shown for it in hints}
-                self._tell_owners(server, found.schema, tables)
+                plans, hints = self._asked(server, found.schema, choice, judged.verdicts)
             with self.steps.step("check", "checking the certificate"):
                 left_out = [it for it, _ in choice.left_out]
                 unused = self.searches.unused(found.schema, self.rules, choice.advice.picks, left_out)
@@ -156,6 +151,20 @@ class Run:
             curve = [as_json_of_point(it, none.total) for it in points]
             self.folder.write({folder.CURVE: json.dumps(curve, indent=2) + "\n"})
         return result.document()
+
+    def _asked(
+        self, server: Server, schema: Schema, choice: Choice, verdicts: list[Verdict]
+    ) -> tuple[Plans, list[Hint]]:
+        """What the server says once the picks are chosen: its plans, the hints that no given rule leaves out, and who owns the
+        tables of both."""
+        with self.steps.step("plans", "comparing plans", 2 * len(verdicts)):
+            plans = plans_of(server, schema, choice.advice, verdicts, self.steps)
+        with self.steps.step("hints", "looking for indexes that our model doesn't know"):
+            every = hints_of(server, schema, choice.advice, verdicts, self.steps)
+        hints = [it for it in every if not self.rules.leave_out(it.index.pick(), self.head["long_columns"])]
+        tables = {it.table for it in choice.advice.picks} | {it.index.table.shown for it in hints}
+        self._tell_owners(server, schema, tables)
+        return plans, hints
 
     def _tell_owners(self, server: Server, schema: Schema, picked: set[str]) -> None:
         """Who owns the tables of picks and hints, the owner of the most first, and how many indexes they have."""

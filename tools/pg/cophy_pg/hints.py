@@ -2,7 +2,9 @@
 others."""
 from __future__ import annotations
 
+from collections import Counter
 from collections.abc import Iterable
+from dataclasses import dataclass, field
 from typing import Any
 
 from cophy_text.shown import percent, short, space
@@ -21,10 +23,38 @@ ALONE = "the server's planner alone: outside our model, its bound, and what it c
 Found = tuple[dict[str, Any], Applied]
 
 
-def documents_of(hints: Iterable[Hint], schema: Schema, cost: float, time: float | None, left: int) -> list[Found]:
-    """The hints, those that save the most first, each with its index. One is made that saves as much as a pick has to, under
-    which no INSERT fails by the statistics, and that fits into the pages that those before it leave. A statement gains by the
-    first that is made alone. `cost` and `time` are those of all statements without indexes."""
+@dataclass
+class Room:
+    """What the picks leave to hints: pages, and how many indexes a table may get, beside how many it does; and how many percent
+    each has to save."""
+
+    pages: int
+    least: float = LITTLE
+    most_per_table: int | None = None
+    made: Counter[str] = field(default_factory=Counter)
+
+    def why_not(self, shown: dict[str, Any], fails: str) -> str | None:
+        """Why a hint isn't made; nothing where it is."""
+        if saved_of(shown) < self.least:
+            return f"{self.least:g} % are asked for"
+        if self.most_per_table is not None and self.made[shown["table"]] >= self.most_per_table:
+            return f"{self.most_per_table} a table are asked for at most"
+        much = f"it takes {space(self.missing(shown))} more than the budget leaves" if self.missing(shown) else None
+        return fails or much
+
+    def missing(self, shown: dict[str, Any]) -> int:
+        """How many pages more a hint takes than there are."""
+        return max(0, int(shown["stored_pages"]) - self.pages)
+
+    def take(self, shown: dict[str, Any]) -> None:
+        """Makes a hint."""
+        self.pages -= shown["stored_pages"]
+        self.made[shown["table"]] += 1
+
+
+def documents_of(hints: Iterable[Hint], schema: Schema, cost: float, time: float | None, room: Room) -> list[Found]:
+    """The hints, those that save the most first, each with its index. A statement gains by the first that is made alone. `cost`
+    and `time` are those of all statements without indexes."""
     found, served = list[Found](), set[int]()
     by_saving = sorted(hints, key=lambda it: -saved_of(_document(it.users, it.index.pick(), schema, cost, time)))
     for it in by_saving:
@@ -32,14 +62,11 @@ def documents_of(hints: Iterable[Hint], schema: Schema, cost: float, time: float
         if not users:
             continue
         shown = _document(users, pick, schema, cost, time)
-        missing = max(0, shown["stored_pages"] - left)
-        little = f"it saves {percent(saved_of(shown))}" if saved_of(shown) < LITTLE else ""
-        much = f"it takes {space(missing)} more than the budget leaves" if missing else ""
-        shown |= {"missing_pages": missing, "why_not": little or warning(likely(schema, pick)) or much or None}
-        if shown["why_not"] is None:
-            left -= shown["stored_pages"]
+        why = room.why_not(shown, warning(likely(schema, pick)))
+        found.append((shown | {"missing_pages": room.missing(shown), "why_not": why}, pick))
+        if why is None:
+            room.take(shown)
             served |= {verdict.number for verdict, _ in users}
-        found.append((shown, pick))
     return found
 
 

@@ -12,10 +12,10 @@ from cophy_pg.choice import Choice
 from cophy_pg.ddl import Made, create, taken_names
 from cophy_pg.expression_hints import Hint
 from cophy_pg.guesses import is_guessed, saved_of, whole_of
-from cophy_pg.hints import Found, documents_of
+from cophy_pg.hints import Found, Room, documents_of
 from cophy_pg.outcomes import ORDINARY, Outcome
 from cophy_pg.plans import Plans
-from cophy_pg.recommended import Recommended, caveat_of
+from cophy_pg.recommended import LITTLE, Recommended, caveat_of
 from cophy_pg.rewrite.parse import without_literals
 from cophy_pg.schema import Schema
 from cophy_pg.sizes import stored_size
@@ -156,8 +156,12 @@ class Result:
         if self.recommended is None:
             return []
         time = whole_of([it.input.seconds for it in self.workload.records])
-        left = int(self.head["asked_pages"]) - int(self._recommended()["stored_pages"])
-        return documents_of(self.hints, self.schema, self.judged.sums()[1], time, left)
+        options, picks = self.head["options"], [it for it in self.choice.advice.picks if not self._caveat(it.number)]
+        left = self.head["asked_pages"] - stored_size(self.schema, picks)
+        room = Room(
+            left, max(LITTLE, options["min_saving"]), options["most_per_table"], Counter(it.table for it in picks)
+        )
+        return documents_of(self.hints, self.schema, self.judged.sums()[1], time, room)
 
     def _plain(self, reason: Reason, outcome: Outcome) -> dict[str, Any]:
         """A pick, with what it saves and what the server says of it."""

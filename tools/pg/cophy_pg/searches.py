@@ -4,7 +4,7 @@ from __future__ import annotations
 import math
 import os
 import time
-from collections.abc import Callable
+from collections.abc import Callable, Collection
 from dataclasses import dataclass, field, replace
 
 from cophy_text import files
@@ -75,6 +75,11 @@ class Rules:
     def asks_for(self, pick: Candidate) -> bool:
         """Whether a rule wants that pick, taken or not."""
         return f"must {pick.shown()}" in self.given
+
+    def leave_out(self, pick: Candidate, own: Collection[str]) -> bool:
+        """Whether one of those that were given, but not of our own, leaves a table or a column out."""
+        rules = (read_rule(it) for it in self.given if it not in own)
+        return any(it is not None and not it.columns and is_about(it, pick) for it in rules)
 
     def forbid(self, picks: list[Candidate]) -> bool:
         """Forbids picks from now on; whether any wasn't before."""
