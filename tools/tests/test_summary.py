@@ -162,6 +162,46 @@ class Summary(unittest.TestCase):
         del self.document["picks"][3:]
         self.assertTrue(self.verdict()[at + 2].startswith(" 3.    0.2    0.9 %  t2(a, b, c)  FROM t0"))
 
+    def test_an_index_that_the_server_alone_has_judged_is_a_row_behind_the_picks_and_before_the_others(self) -> None:
+        from cophy_pg.closing import commands_of
+        from cophy_pg.overview import gain_of, lines_of
+
+        self.five()
+        self.document["statements"][1]["seconds"] = 0.1
+        self.document["picks"][2]["caveat"] = "it saves 0.4 %"
+        self.document["recommended"] |= {"picks": 4, "stored_pages": 2048}
+        hint = {"table": "t9", "columns": ["lower(a)"], "stored_pages": 640, "why_not": None, "missing_pages": 0}
+        hint |= {"saves": {"server": 9.0, "planned": 12.0}, "statements": ["CREATE INDEX;", "ANALYZE;"], "notes": []}
+        hint |= {"changes": [change(9, "SELECT x FROM t9 WHERE lower(t9.a) = 'a'", 0.0, 9.0)], "build_seconds": 3.0}
+        self.document |= {"hints": [hint | {"owner": "app", "long": []}], "asked_pages": 3072}
+        lines = self.verdict()
+        # 16 MB of picks and 5 of the hint; a pick that saves 10 % is taken off, and the hint saves 12 %.
+        self.assertEqual(lines[0], "Make these 5 indexes: 21.0 MB of the budget of 24.0 MB.")
+        self.assertTrue(lines[1].startswith("They save about 85 % of the 1.6 s measured, if time"), lines[1])
+        at = next(at for at, it in enumerate(lines) if it.startswith(" 5."))
+        self.assertEqual(lines[at], " 5.    5.0 * 12.0 %  t9(lower(a))       WHERE lower(a) = 'a'")
+        self.assertTrue(lines[at + 1].startswith("* judged by the server's planner alone: outside our model, "))
+        over = (
+            "1 more isn't recommended (4.0 MB, with which all are 1.0 MB over the budget; psql -v all=1 makes it too)"
+        )
+        self.assertIn(over, lines)
+        self.assertIn("make them (about 33 seconds, reads and writes go on):", lines)
+        details = lines_of(self.document)
+        self.assertTrue(details[0].startswith("5 indexes to make, 21.0 MB of 24.0 MB, and 1 not recommended, 4.0 MB: "))
+        at = details.index("5. CREATE INDEX;")
+        self.assertEqual(details[at + 1], "   ANALYZE;")
+        self.assertEqual(details[at + 2].split()[:5], ["5.0", "MB", "-", "9.0", "12.0"])
+        self.assertEqual([it[:2] for it in details if it[:2] in ("4.", "5.", "6.")], ["4.", "5.", "6."])
+        said = gain_of(self.document["hints"][0])
+        self.assertTrue(said.startswith("saves 12.0 % of the time by the server's planner alone, the most of SELECT x"))
+        self.document["owners"] = ["app", "boss"]
+        for it in self.document["picks"]:
+            it["owner"] = "boss"
+        self.assertIn(" -v without=1,2,3,4,6 ", commands_of(self.document, "x")[0])
+        # Where there is no pick, it is made alone.
+        self.document["picks"], self.document["recommended"]["stored_pages"] = [], 0
+        self.assertEqual(self.verdict()[0], "Make this index: 5.0 MB of the budget of 24.0 MB.")
+
     def test_where_some_time_isnt_known_the_verdict_is_of_the_servers_cost(self) -> None:
         self.five()
         self.document["statements"][1]["seconds"] = None

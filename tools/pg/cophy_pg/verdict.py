@@ -151,8 +151,9 @@ def _unadvised(document: dict[str, Any]) -> list[str]:
     size = space(document["stored_pages"] - recommended_of(document)["stored_pages"])
     what = f"{count}{' more' * made} {'is' if count == 1 else 'are'}n't recommended"
     more = document["stored_pages"] - recommended_of(document)["stored_pages"] + pages_of(document)
-    over = f", {space(more - document['asked_pages'])} over the budget" if more > document["asked_pages"] else ""
-    return [f"{what} ({size}{over}; psql -v all=1 makes {'it' if count == 1 else 'them'}{' too' * made})"]
+    over = more - document["asked_pages"]
+    too_much = f", with which all are {space(over)} over the budget" if over > 0 else ""
+    return [f"{what} ({size}{too_much}; psql -v all=1 makes {'it' if count == 1 else 'them'}{' too' * made})"]
 
 
 def _rest(document: dict[str, Any], kept: Folder) -> list[str]:
