@@ -87,7 +87,8 @@ class Found(unittest.TestCase):
         u, v = self.schema.tables.values()
 
         def found(pages: int, *hints: Hint, **more: Any) -> list[tuple[str, float, int | None, str | None]]:
-            """What is said of hints whose indexes take 100 pages each, where all statements cost 1000 and took 8 s."""
+            """What is said of hints whose indexes take 100 pages each, where all statements cost 1000 and took 8
+            s."""
             with mock.patch("cophy_pg.hints.stored_pages", return_value=100):
                 told = [it for it, _ in documents_of(hints, self.schema, 1000.0, 8.0, Room(pages, **more))]
             return [(it["columns"][0], it["saves"]["planned"], it["missing_pages"], it["why_not"]) for it in told]

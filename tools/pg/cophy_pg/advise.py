@@ -155,8 +155,8 @@ class Run:
     def _asked(
         self, server: Server, schema: Schema, choice: Choice, verdicts: list[Verdict]
     ) -> tuple[Plans, list[Hint]]:
-        """What the server says once the picks are chosen: its plans, the hints that no given rule leaves out, and who owns the
-        tables of both."""
+        """What the server says once the picks are chosen: its plans, the hints that no given rule leaves out, and
+        who owns the tables of both."""
         with self.steps.step("plans", "comparing plans", 2 * len(verdicts)):
             plans = plans_of(server, schema, choice.advice, verdicts, self.steps)
         with self.steps.step("hints", "looking for indexes that our model doesn't know"):

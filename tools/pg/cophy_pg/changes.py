@@ -45,7 +45,8 @@ class Found:
         return Found(document, read_schema(kept.read(kept.whole())))
 
     def has(self, pick: dict[str, Any]) -> bool:
-        """Whether an index of the catalogue is over just these columns; of a hint, whether there is one of its name."""
+        """Whether an index of the catalogue is over just these columns; of a hint, whether there is one of its
+        name."""
         if is_hint(pick):
             return pick["name"].lower() in taken_names(self.schema)
         try:

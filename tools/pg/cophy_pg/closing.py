@@ -53,8 +53,8 @@ def made_hints(document: dict[str, Any]) -> list[dict[str, Any]]:
 
 
 def rows_of(document: dict[str, Any]) -> list[tuple[int, dict[str, Any]]]:
-    """All that the script makes with its numbers, which are the same wherever they stand: the picks that are recommended, the
-    hints that it makes, and the other picks."""
+    """All that the script makes with its numbers, which are the same wherever they stand: the picks that are
+    recommended, the hints that it makes, and the other picks."""
     others = [it for it in document["picks"] if it.get("caveat")]
     return [*enumerate([*advised_of(document), *made_hints(document), *others], 1)]
 
@@ -66,9 +66,9 @@ def pages_of(document: dict[str, Any]) -> int:
 
 
 def time_falls(document: dict[str, Any]) -> float:
-    """How many percent of the measured time the recommended picks and the hints save, if each statement's falls as the server
-    says that its cost does. One whose cost the server doesn't say saves nothing, and what isn't recommended is taken off.
-    """
+    """How many percent of the measured time the recommended picks and the hints save, if each statement's falls as
+    the server says that its cost does. One whose cost the server doesn't say saves nothing, and what isn't
+    recommended is taken off."""
     whole, saved = seconds_of(document["statements"]) or 0.0, 0.0
     for it in document["statements"]:
         if (cost := it["server_cost"]) and cost["before"]:

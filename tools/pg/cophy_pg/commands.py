@@ -24,8 +24,8 @@ def commands_text(
     unadvised: Sequence[int] = (),
     also: Sequence[Applied] = (),
 ) -> str:
-    """A line for each step, without the connection. The budget is the program's, in pages; the order is that of the picks, of
-    which the ones at the unadvised places aren't recommended; others are made too."""
+    """A line for each step, without the connection. The budget is the program's, in pages; the order is that of the
+    picks, of which the ones at the unadvised places aren't recommended; others are made too."""
     both = [kept.path(folder.CATALOGUE), kept.path(folder.WORKLOAD)]
     chosen, written = _chosen(words), [*words_of(words), *clustering.words_of(words)]
     nodes = ["--nodes", str(words.nodes)] if words.nodes else []

@@ -29,8 +29,9 @@ class Applied(Candidate):
 
 @dataclass(frozen=True)
 class Named:
-    """An index that is to be made: its name, its table, its columns, of which the first `keys` are keys, whether it is made
-    CONCURRENTLY, and PostgreSQL's function of its one column that it is over, where it isn't over that itself."""
+    """An index that is to be made: its name, its table, its columns, of which the first `keys` are keys, whether it
+    is made CONCURRENTLY, and PostgreSQL's function of its one column that it is over, where it isn't over that
+    itself."""
 
     name: str
     where: tuple[str, str]

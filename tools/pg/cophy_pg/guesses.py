@@ -45,7 +45,8 @@ def warning_of(pick: dict[str, Any], document: dict[str, Any]) -> str:
 
 
 def is_judged(pick: dict[str, Any]) -> bool:
-    """Whether the server says what a pick saves, as it does of each hint: it knows a clustered one as an ordinary index alone."""
+    """Whether the server says what a pick saves, as it does of each hint: it knows a clustered one as an ordinary
+    index alone."""
     return pick.get("outcome", "taken") == "taken" and not pick.get("clustered", False)
 
 
@@ -57,8 +58,8 @@ def time_saved(pick: dict[str, Any]) -> float | None:
 
 
 def saved_of(pick: dict[str, Any]) -> float:
-    """What is printed that a pick or a hint saves, in percent: of the measured time, where that is known, or else of the cost, by
-    the server's planner where that judges it."""
+    """What is printed that a pick or a hint saves, in percent: of the measured time, where that is known, or else
+    of the cost, by the server's planner where that judges it."""
     time = time_saved(pick)
     return float(pick["saves"]["server" if is_judged(pick) else "ours"] if time is None else time)
 

@@ -1,5 +1,5 @@
-"""The hints of `expression_hints` in the document, in the form of picks: those that the script makes, and what is told of the
-others."""
+"""The hints of `expression_hints` in the document, in the form of picks: those that the script makes, and what is
+told of the others."""
 from __future__ import annotations
 
 from collections import Counter
@@ -25,8 +25,8 @@ Found = tuple[dict[str, Any], Applied]
 
 @dataclass
 class Room:
-    """What the picks leave to hints: pages, and how many indexes a table may get, beside how many it does; and how many percent
-    each has to save."""
+    """What the picks leave to hints: pages, and how many indexes a table may get, beside how many it does; and how
+    many percent each has to save."""
 
     pages: int
     least: float = LITTLE
@@ -53,8 +53,8 @@ class Room:
 
 
 def documents_of(hints: Iterable[Hint], schema: Schema, cost: float, time: float | None, room: Room) -> list[Found]:
-    """The hints, those that save the most first, each with its index. A statement gains by the first that is made alone. `cost`
-    and `time` are those of all statements without indexes."""
+    """The hints, those that save the most first, each with its index. A statement gains by the first that is made
+    alone. `cost` and `time` are those of all statements without indexes."""
     found, served = list[Found](), set[int]()
     by_saving = sorted(hints, key=lambda it: -saved_of(_document(it.users, it.index.pick(), schema, cost, time)))
     for it in by_saving:
@@ -73,7 +73,8 @@ def documents_of(hints: Iterable[Hint], schema: Schema, cost: float, time: float
 def _document(
     users: list[tuple[Verdict, float]], pick: Applied, schema: Schema, cost: float, time: float | None
 ) -> dict[str, Any]:
-    """A hint in the form of a pick, with the statements that cost less by it. It is as large as an index over the column."""
+    """A hint in the form of a pick, with the statements that cost less by it. It is as large as an index over the
+    column."""
     changes, seconds = list[dict[str, Any]](), 0.0
     for it, after in users:
         saved, given = (it.after or 0.0) - after, it.input
@@ -97,7 +98,8 @@ def _percent(part: float, whole: float) -> float:
 
 def hints_shown(document: dict[str, Any]) -> list[str]:
     """A line for each of those that save the most and take too much, for the summary."""
-    much = [it for it in document.get("hints", []) if it["why_not"] and it["missing_pages"] and saved_of(it) >= LITTLE]
+    kept_out = [it for it in document.get("hints", []) if it["why_not"] and it["missing_pages"]]
+    much = [it for it in kept_out if saved_of(it) >= LITTLE]
     return [f"a hint by the server's planner alone: {_told(it)}, but {_why(it)}" for it in much[:MOST_SHOWN]]
 
 

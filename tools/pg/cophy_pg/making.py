@@ -59,6 +59,14 @@ def add_ddl(commands: argparse._SubParsersAction[argparse.ArgumentParser]) -> No
         metavar="WORKLOAD",
         help="put columns that no statement of the workload compares, joins, groups or orders by behind INCLUDE",
     )
+    _add_places(parser)
+    _add_speeds(parser)
+    parser.add_argument("--json", action="store_true", help="print JSON instead")
+    parser.set_defaults(run=ddl)
+
+
+def _add_places(parser: argparse.ArgumentParser) -> None:
+    """The words of what is made in which order."""
     parser.add_argument(
         "--order",
         type=numbers,
@@ -72,7 +80,7 @@ def add_ddl(commands: argparse._SubParsersAction[argparse.ArgumentParser]) -> No
         action="append",
         default=[],
         metavar="T(lower(C))",
-        help="an index over lower() or upper() of a column that is made too, behind the picks, but before those of --unadvised",
+        help="an index over lower() or upper() of a column to make too, behind the picks but before those of --unadvised",
     )
     parser.add_argument(
         "--unadvised",
@@ -81,9 +89,6 @@ def add_ddl(commands: argparse._SubParsersAction[argparse.ArgumentParser]) -> No
         metavar="N,N,..",
         help="the places of picks that the script makes with -v all=1 alone",
     )
-    _add_speeds(parser)
-    parser.add_argument("--json", action="store_true", help="print JSON instead")
-    parser.set_defaults(run=ddl)
 
 
 def _add_speeds(parser: argparse.ArgumentParser) -> None:

@@ -185,8 +185,8 @@ def _head(document: dict[str, Any]) -> str:
 
 
 def part_of(document: dict[str, Any]) -> str:
-    """How many statements are priced, of those that the server counted or a file has, and what they have of the measured time,
-    or of all calls where some were skipped."""
+    """How many statements are priced, of those that the server counted or a file has, and what they have of the
+    measured time, or of all calls where some were skipped."""
     every, what = document["statements"], measured(document)
     text = f"{grouped(sum(bool(it['numbers']) for it in every))} of {counted(len(every), 'statement')}"
     text += " counted" * (document["options"]["source"] == "pg_stat_statements")

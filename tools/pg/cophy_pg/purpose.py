@@ -1,4 +1,5 @@
-"""What a statement asks of an index, in a few words: what like statements have in common, as their select list, is left out."""
+"""What a statement asks of an index, in a few words: what like statements have in common, as their select list, is
+left out."""
 from __future__ import annotations
 
 import re
@@ -19,9 +20,9 @@ CLAUSES = {"sortClause": "ORDER BY", "groupClause": "GROUP BY"}
 
 
 def purpose_of(sql: str, table: str, columns: Iterable[str], most: int) -> str:
-    """Of a statement the conditions with a column of an index, behind WHERE wherever they stand; or else what it orders or groups
-    by with one; or else what begins with its first FROM; all of it where it has none or can't be parsed. The names of table and
-    columns are those of the catalogue; one may stand within a function."""
+    """Of a statement the conditions with a column of an index, behind WHERE wherever they stand; or else what it
+    orders or groups by with one; or else what begins with its first FROM; all of it where it has none or can't be
+    parsed. The names of table and columns are those of the catalogue; one may stand within a function."""
     try:
         served = _served(parsed(sql), table, {it for shown in columns for it in re.findall(r"\w+", shown.lower())})
     except (ParseError, RecursionError, ValueError):
@@ -38,7 +39,8 @@ def _served(tree: Any, table: str, columns: set[str]) -> str:
         return any(_is_in(it, names, columns) for it in nodes_of(node))
 
     nodes = [*nodes_of(tree)]
-    conditions = [it for node in nodes for name in ("whereClause", "quals") for it in joined(getattr(node, name, None))]
+    clauses = [getattr(it, name, None) for it in nodes for name in ("whereClause", "quals")]
+    conditions = [it for clause in clauses for it in joined(clause)]
     plain = [
         it for it in conditions if it is not None and not any(isinstance(one, ast.SubLink) for one in nodes_of(it))
     ]

@@ -134,8 +134,8 @@ class Result:
         return self.listed()[0]
 
     def listed(self) -> tuple[list[dict[str, Any]], list[Found]]:
-        """The picks and the hints, whose places and names are given in the order in which they are made: picks that are
-        recommended, hints, other picks."""
+        """The picks and the hints, whose places and names are given in the order in which they are made: picks that
+        are recommended, hints, other picks."""
         outcomes = {it.pick.number: it for it in self.judged.outcomes}
         by_number = {it.pick.number: it.pick for it in self.reasons}
         picks = sorted((self._plain(it, outcomes[it.pick.number]) for it in self.reasons), key=place_of)

@@ -112,7 +112,7 @@ def _told(schema: Schema, listed: list[Made], speed: Speed, unadvised: Sequence[
     if any(it.laid is not None for it in making):
         lines += ["-- CLUSTER locks its table against all others, readers too."]
     lines += [
-        "-- The owner of the tables runs it: psql -X -f FILE. After a fault or Ctrl-C run it again: INVALID ones are made anew."
+        "-- The owner of the tables runs it: psql -X -f FILE. After a fault or Ctrl-C run it again: it makes INVALID ones anew."
     ]
     lines += ["-- With -v undo=1 it drops what it made, and nothing else; -v without=N,N passes over these numbers."]
     lines += ["-- What isn't recommended is made with -v all=1 alone."] * bool(unadvised)

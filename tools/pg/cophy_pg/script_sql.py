@@ -16,8 +16,8 @@ FROM (
     FROM pg_class c JOIN pg_namespace n ON n.oid = c.relnamespace LEFT JOIN pg_index i ON i.indexrelid = c.oid
     LEFT JOIN pg_class t ON t.oid = i.indrelid LEFT JOIN pg_namespace m ON m.oid = t.relnamespace
     WHERE n.nspname = $1 AND c.relname = $2) found"""
-"""Whether an index is there, and as what: its schema, its name, its table and its columns, or its function of one, which
-PostgreSQL shows with a cast to text, are the parameters."""
+"""Whether an index is there, and as what: its schema, its name, its table and its columns, or its function of one,
+which PostgreSQL shows with a cast to text, are the parameters."""
 BEGIN = f"""\\set QUIET on
 \\set ON_ERROR_STOP on
 \\set AUTOCOMMIT on
@@ -122,8 +122,9 @@ WHERE CASE $1
     ELSE relkind = 'r' AND indexrelid IS NOT NULL AND NOT is_attached END
 ORDER BY CASE $1 WHEN 4 THEN -level ELSE level END, nspname, relname;
 """
-"""The steps of a partitioned table, by their numbers: what an earlier run left INVALID is told and then dropped, the indexes of what has
-parts are made alone, those of the parts, and these are attached; the fifth drops what isn't attached."""
+"""The steps of a partitioned table, by their numbers: what an earlier run left INVALID is told and then dropped,
+the indexes of what has parts are made alone, those of the parts, and these are attached; the fifth drops what isn't
+attached."""
 LAID = f"""PREPARE cophy_laid (text, text, text) AS {OWN}
 SELECT count(*) > 0 AS is_laid FROM pg_index i JOIN pg_class x ON x.oid = i.indexrelid
 JOIN pg_class t ON t.oid = i.indrelid JOIN pg_namespace n ON n.oid = t.relnamespace

@@ -157,8 +157,8 @@ def _home(server: Server) -> str | None:
 
 
 def _counted(server: Server) -> int | None:
-    """How many statements of the database are counted, as `advise` takes them; nothing where none is, which the script has
-    told."""
+    """How many statements of the database are counted, as `advise` takes them; nothing where none is, which the
+    script has told."""
     with suppress(ServerFault, NoInput), server.savepoint():
         return sum(it.text != HIDDEN for it in from_server(server, lambda _: None))
     return None

@@ -97,14 +97,16 @@ def _best(document: dict[str, Any]) -> str:
 
 
 def _is_well_judged(document: dict[str, Any]) -> bool:
-    """Whether the statements that were priced have nearly all of the measured time, or are all where that isn't known."""
+    """Whether the statements that were priced have nearly all of the measured time, or are all where that isn't
+    known."""
     every = document["statements"]
     whole, priced = seconds_of(every), seconds_of(it for it in every if it["numbers"])
     return (priced or 0.0) >= WELL_JUDGED * whole if whole else all(it["numbers"] for it in every)
 
 
 def _rows(advised: list[Row], document: dict[str, Any]) -> list[str]:
-    """A row for each index, in the order of their numbers, and one for all that save little, where they are several."""
+    """A row for each index, in the order of their numbers, and one for all that save little, where they are
+    several."""
     little = [it for it in advised if saved_of(it[1]) < LITTLE]
     shown = [it for it in advised if it not in little] if little[1:] else advised
     wide = max((len(named(it)) for _, it in shown if len(named(it)) <= LONGEST), default=0)
