@@ -47,9 +47,9 @@ def _served(tree: Any, table: str, columns: set[str]) -> str:
     if served := [it for it in plain if has(it)]:
         return f"WHERE {' AND '.join(dict.fromkeys(_written(it, len(served) > 1) for it in served))}"
     for name, words in CLAUSES.items():
-        clauses = [it for node in nodes if has(it := getattr(node, name, None) or ())]
-        if clauses:
-            return f"{words} {', '.join(map(_written, clauses[0]))}"
+        listed = [it for node in nodes if has(it := getattr(node, name, None) or ())]
+        if listed:
+            return f"{words} {', '.join(map(_written, listed[0]))}"
     return ""
 
 
