@@ -267,6 +267,7 @@ class Advised(OverOwn):
         (hint,), left = found["hints"], 64 - found["recommended"]["stored_pages"]
         self.assertEqual((found["picks"], hint["place"]), ([], None))
         self.assertEqual(hint["missing_pages"], hint["stored_pages"] - left)
+        self.assertEqual((hint["owner"], found["owners"]), ("cophy", []))
         much = f"but it takes {hint['missing_pages'] / 128:.1f} MB more than the budget leaves"
         self.assertIn(much, self.told("summary.txt"))
         self.assertIn(INDEX, self.told("details.txt"))

@@ -25,7 +25,7 @@ def purpose_of(sql: str, table: str, columns: Iterable[str], most: int) -> str:
     parsed. The names of table and columns are those of the catalogue; one may stand within a function."""
     try:
         served = _served(parsed(sql), table, {it for shown in columns for it in re.findall(r"\w+", shown.lower())})
-    except (ParseError, RecursionError, ValueError):
+    except (ParseError, RecursionError, ValueError, NotImplementedError):
         return short(sql, most)
     found = _FROM.search(sql)
     return short(served or sql[found.start() if found else 0 :], most)

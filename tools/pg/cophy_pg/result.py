@@ -61,10 +61,12 @@ class Result:
         count, before, after = self.judged.sums()
         picks, hints = self.listed()
         places = {it["number"]: it["place"] for it in picks}
+        owning = {it["owner"] for it in (*picks, *(hint for hint, _ in hints)) if it["place"]}
         return {
             "version": 1,
             "tools": VERSION,
             **self.head,
+            "owners": [it for it in self.head["owners"] if it in owning],
             "budget_pages": self.advice.budget,
             "size_pages": sum(it.pages for it in self.choice.advice.picks),
             "stored_pages": stored_size(self.schema, self.choice.advice.picks),
