@@ -52,7 +52,7 @@ class Daily(InFolder):
     def test_day_by_day(self) -> None:
         self.server.psql("SELECT a FROM t WHERE b = 5;" * 9, "days")
         text = self.call("daily", str(self.home), *WORDS, status=3)
-        self.assertRegex(text, r"\n 1\. +[\d.]+  +[\d.]+ %  t\(b\) +SELECT a FROM t WHERE b")
+        self.assertRegex(text, r"\n 1\. +[\d.]+  +[\d.]+ %  t\(b\)  WHERE b = \$1\n")
         # The second day: other statements, and the index is there.
         self.server.psql("SELECT a FROM t WHERE c = 5;" * 9, "days")
         self.server.psql("CREATE INDEX ON t (b); INSERT INTO u SELECT 1 FROM generate_series(1, 700); ANALYZE", "days")
