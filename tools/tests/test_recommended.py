@@ -85,12 +85,13 @@ class Recommended(unittest.TestCase):
             "<b>50.0 %</b>of the cost before: 9,000, then 4,500",
             "<b>30.0 %</b>of the cost before: 9,000, then 2,700",
             "<b>5.0 MB</b>of 2,048.0 MB",
-            "<h3>2. t(b)</h3>",
+            "<h3>1. t(b)</h3>",
         ):
             self.assertIn(part, made)
-        self.assertNotIn("<h3>1. t(c)</h3>", made)
-        self.assertIn("<h3>1. t(c)</h3>", others)
-        self.assertNotIn("<h3>2.", others)
+        # What isn't recommended has the last numbers, wherever it stands in the document.
+        self.assertNotIn("<h3>2.", made)
+        self.assertIn("<h3>2. t(c)</h3>", others)
+        self.assertNotIn("<h3>1.", others)
         self.assertEqual(others.count("he server saves 3.3 %"), 1)
         with_all = "costs 1,800 by our model and 1,000 by the server's planner, and the indexes take 0.2 MB"
         self.assertIn(with_all, others)
