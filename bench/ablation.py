@@ -49,22 +49,10 @@ CHANGES = (
         FINDING,
         "            let count = self.fix(visit);\n",
         "            let mut own = *visit;\n            let _ = self.fix(&mut own);\n            visit.bound = own.bound;\n"
-        "            visit.forced = own.forced;\n            let count = 0usize;\n",
-    ),
-    Change(
-        "branches with both sides closed",
-        FINDING,
-        "if best.inside >= missing && best.outside >= missing {",
-        "if false {",
+        "            let count = 0usize;\n",
     ),
     Change("more passes at a node", FINDING, "const MOST_PASSES: u32 = 4;", "const MOST_PASSES: u32 = 1;"),
     Change("dives", FINDING, "turns <= FIRST_DIVES || turns % LATER_DIVES == 0", "false"),
-    Change(
-        "bounds of both sides before they are visited",
-        FINDING,
-        "let bounds = [inside, outside];",
-        "let bounds = [visit.bound; 2];",
-    ),
     Change("cuts of a view", "interior_point/src/view.rt", "self.cut(cost);", ""),
     Change(
         "the tree of the search in the plan",

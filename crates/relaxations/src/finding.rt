@@ -26,13 +26,12 @@ const FIRST_DIVES: u32 = 3;
 
 const LATER_DIVES: u32 = 16;
 
-/// The visit of a node: its states and its bound, and a candidate on which both sides of a branch are closed.
+/// The visit of a node: its states and its bound.
 #[derive(Clone, Copy)]
 struct Visit {
     fix: Fix,
     bound: f64,
     is_closed: bool,
-    forced: Option<u8>,
 }
 
 /// What the search works with. `rents` has the rents of the last relaxation by link of the matrix, `own_rents` by link of the
@@ -162,11 +161,6 @@ impl Finder {
             } else if rises.inside >= missing {
                 visit.fix.state[candidate as usize] = State::Out;
                 count = count.wrapping_add(1);
-            } else if visit.forced.is_none() {
-                let best = self.losses.best_rises(&self.view, &self.lagrangian, number);
-                if best.inside >= missing && best.outside >= missing {
-                    visit.forced = Some(candidate);
-                }
             }
         }
         count
@@ -189,7 +183,7 @@ impl Finder {
             if visit.is_closed {
                 return;
             }
-            if visit.forced.is_some() || count == 0 || (pass > 0 && count < MANY_FIXED) {
+            if count == 0 || (pass > 0 && count < MANY_FIXED) {
                 break;
             }
         }
@@ -249,44 +243,15 @@ impl Finder {
         best
     }
 
-    /// The bound of a side of a branch where the value rises by so much.
-    fn side_bound(&self, visit: &Visit, rise: f64) -> f64 {
-        let cost = float_of(self.best.cost);
-        if visit.forced.is_some() || self.lagrangian.value + rise >= cost - 0.5 {
-            cost
-        } else {
-            visit.bound
-        }
-    }
-
-    /// Branches at a node; the side to which the share of the branch's candidate rounds, if it is open.
-    fn branch(
-        &mut self,
-        matrix: &Matrix,
-        place: usize,
-        visit: &Visit,
-        number: usize,
-    ) -> Option<usize> {
+    /// Branches at a node; the side to which the share of the branch's candidate rounds.
+    fn branch(&mut self, matrix: &Matrix, place: usize, visit: &Visit, number: usize) -> usize {
         let candidate = at(self.view.candidates.as_slice(), number, 0);
-        let rises = self.losses.best_rises(&self.view, &self.lagrangian, number);
-        let inside = self.side_bound(visit, rises.inside);
-        let outside = self.side_bound(visit, rises.outside);
         let fixes = sides(matrix, &visit.fix, candidate);
-        let bounds = [inside, outside];
-        let first = self.tree.branch(place, candidate, &fixes, bounds);
+        let first = self.tree.branch(place, candidate, &fixes, visit.bound);
         if self.shares[candidate as usize] >= 0.5 {
-            self.open_side(first, inside)
+            first
         } else {
-            self.open_side(first.wrapping_add(1), outside)
-        }
-    }
-
-    /// A node, where a bound leaves it open.
-    fn open_side(&self, place: usize, bound: f64) -> Option<usize> {
-        if bound < self.target() {
-            Some(place)
-        } else {
-            None
+            first.wrapping_add(1)
         }
     }
 
@@ -297,16 +262,12 @@ impl Finder {
             fix: node.fix(),
             bound: node.bound,
             is_closed: false,
-            forced: None,
         };
         self.relax_and_fix(matrix, budget, &mut visit, place == 0);
         if !visit.is_closed {
             let _ = self.evaluate(&mut visit);
         }
-        let number = match visit.forced {
-            Some(candidate) => self.view.local[candidate as usize] as usize,
-            None => self.choice(matrix),
-        };
+        let number = self.choice(matrix);
         let is_closed = visit.is_closed
             || visit.bound >= self.target()
             || number >= self.view.candidates.len();
@@ -314,7 +275,7 @@ impl Finder {
         if is_closed {
             None
         } else {
-            self.branch(matrix, place, &visit, number)
+            Some(self.branch(matrix, place, &visit, number))
         }
     }
 

@@ -165,17 +165,16 @@ impl Tree {
         place
     }
 
-    /// Branches on a candidate, with states and bounds of the sides where it is in and out; the place of the first, before the
-    /// other.
+    /// Branches on a candidate, with the states of the sides where it is in and out; the place of the first, before the other.
     pub(crate) fn branch(
         &mut self,
         at: usize,
         candidate: u8,
         fixes: &[Fix; 2],
-        bounds: [f64; 2],
+        bound: f64,
     ) -> usize {
-        let inside = self.append_side(at, &fixes[0], bounds[0]);
-        let outside = self.append_side(at, &fixes[1], bounds[1]);
+        let inside = self.append_side(at, &fixes[0], bound);
+        let outside = self.append_side(at, &fixes[1], bound);
         if at < self.nodes.len() {
             self.nodes[at].branch = candidate as u16;
             self.nodes[at].sides = [inside, outside];
