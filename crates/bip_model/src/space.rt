@@ -31,7 +31,7 @@ impl Programme {
 }
 
 impl Space<'_> {
-    ghost use Rattle.std.specs.Prelude.{◌≡◌, ◌*◌, ◌<◌, ◌≤◌, ◌↔◌, IsTrue, false, if◌then◌else◌, length, slice_index_or};
+    ghost use Rattle.std.specs.Prelude.{◌≡◌, ◌*◌, ◌<◌, ◌≤◌, ◌↔◌, nat_le, IsTrue, false, if◌then◌else◌, length, slice_index_or};
     ghost use Rattle.adv_base.specs.Configs as configs;
     ghost use Rattle.adv_base.specs.Nodes as nodes;
     ghost use Rattle.adv_base.specs.declared.limits.TheConstants.{MOST_CANDIDATES, MOST_INDEX_PAGES};
@@ -84,6 +84,13 @@ impl Space<'_> {
         ensures most { result ≤ MOST_CANDIDATES * MOST_INDEX_PAGES }
     {
         self.pages(&fix.inside())
+    }
+
+    /// Whether a candidate's pages fit by themselves.
+    pub fn fits_alone(&self, number: u16) -> bool
+        ensures { result ≡ nat_le (configs.size_in self.now.sizes.now number) self.now.budget }
+    {
+        self.size(number) <= self.budget
     }
 
     /// Whether a candidate's pages fit beside those of what is in at a node.

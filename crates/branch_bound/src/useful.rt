@@ -63,8 +63,8 @@ fn is_useful(programme: &Programme, budget: u64, index: usize) -> bool
     requires { index < length programme.now.sizes }
     ensures { result ≡ candidates.is_useful programme.now budget (index + 1) }
 {
-    programme.sizes.as_slice()[index] <= budget
-        && helps(programme.parts.as_slice(), index as u16 + 1)
+    let number = index as u16 + 1;
+    programme.space(budget).fits_alone(number) && helps(programme.parts.as_slice(), number)
 }
 
 /// 1 for a flag that is on, else 0.

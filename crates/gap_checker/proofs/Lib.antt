@@ -20,6 +20,7 @@ pub mod Claimed
 pub mod TreeTexts
 pub mod TreeBreaks
 pub mod Reading
+pub mod Begun
 pub mod Alike
 pub mod Behind
 pub mod Told

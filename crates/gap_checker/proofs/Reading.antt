@@ -7,14 +7,12 @@ use Rattle.std.proofs.lemmas.List.Elements.{All-append}
 use Rattle.adv_base.specs.Numbers.{BeginsWithLine}
 use Rattle.bip_model.specs.declared.answer.Node.{Node}
 use Rattle.bip_model.specs.declared.answer.Node.TheVariants.{Branch, Bounded, Overfull}
-use Rattle.bip_model.specs.declared.fix.Fix.{Fix}
 use Rattle.bip_model.specs.Views.{node_of}
 use Rattle.certificate.specs.declared.cert.Cert.{Cert}
 use Rattle.certificate.specs.declared.head.Head.{Head}
 use Rattle.certificate.specs.Certificates.{IsLine}
 use Rattle.certificate.specs.Limits.{NodeLimits, AreTrees}
 use Rattle.certificate.specs.Texts.{text_of, node_line, end_line}
-use Rattle.certificate.proofs.Heads.{heads-keep-limits, tree-behind}
 use Rattle.certificate.proofs.ReadLaws.{text-append}
 use Rattle.certificate.proofs.Splits.{all-append}
 use Rattle.gap_checker.specs.declared.fault.AtFault.{AtFault}
@@ -23,7 +21,7 @@ use Rattle.gap_checker.specs.declared.fault.CheckFault.{CheckFault}
 use Rattle.gap_checker.specs.declared.fault.CheckFault.TheVariants as faults
 use Rattle.gap_checker.specs.declared.judge.Judge.{Judge}
 use Rattle.gap_checker.specs.declared.tree_reader.TreeReader.{TreeReader}
-use Rattle.gap_checker.specs.At.{IsSomeHead, cert_at, BeginsWith, BreaksAt, IsMalformed, IsFaultAt}
+use Rattle.gap_checker.specs.At.{cert_at, BeginsWith, BreaksAt, IsMalformed, IsFaultAt}
 use Rattle.gap_checker.specs.Faults.{IsFault, IsSound}
 use Rattle.gap_checker.specs.Views.{sets_of, rule_of, IsProof}
 use Rattle.gap_checker.specs.Visits.{visits, IsRight}
@@ -33,8 +31,8 @@ use Rattle.gap_checker.specs.inner.Nodes.{starts_of}
 use Rattle.gap_checker.specs.inner.Readings.{IsJudgeFor, end_count, lines_of, line_number, ReaderFits, HasTaken, Extends, TakesOn, IsTreeFault, IsFaultIn, IsWhole}
 use Rattle.gap_checker.specs.inner.Walks.{trees_after, TreesFit}
 use Rattle.gap_checker.proofs.TreeBreaks.{Stands, node_lines, all_lines, front-whole, tree-read, Next, breaks, breaks-behind, too-long, not-whole}
-use Rattle.gap_checker.proofs.TreeTexts.{next-trees, trees-even}
-use Rattle.gap_checker.proofs.Walking.{walk-start, walk-end}
+use Rattle.gap_checker.proofs.TreeTexts.{next-trees}
+use Rattle.gap_checker.proofs.Walking.{walk-end}
 
 -- ## What stands
 
@@ -236,7 +234,7 @@ node-fault judge head r node fault told fits is undone line limit less fit next 
           (next h.read rest is.sound h.walk (omega (arith, h.count))));
     }))
 
-no-byte : IsLine []
+pub no-byte : IsLine []
 no-byte = λ k d within. absurd (omega (arith, within))
 
 pub takes-node : (judge : Judge) (head : Head) (r n : TreeReader) (node : Node) → ReaderFits head r → r.is_done ≡ false → r.partial ≡ node_line node → NodeLimits (length head.sets) node → r.read < head.nodes →
@@ -381,32 +379,3 @@ ends-behind judge head r text fault fits is done some same h =
     subst (IsTreeFault (setting_of judge) (root_of judge) head text) (sym same)
     (subst (λ (t : List ℕ). IsMalformed (setting_of judge) (root_of judge) head t (line_number head r)) (none text)
     (stuck-done judge head r text [] [] fits is done h (omega (arith, some, ap length (none r.partial)))))
-
--- ## The start
-
-pub starts-fit : (head : Head) (r : TreeReader) (root : Fix) → IsSomeHead head → r.read ≡ 0 → r.is_done ≡ false → r.starts.items ≡ root ∷ [] → r.partial ≡ [] → ReaderFits head r
-starts-fit head r root some read undone starts partial =
-    let limits = heads-keep-limits some.bytes head some.is in
-    let one : length r.starts.items ≡ 1 = ap length starts in
-    let nodes : length some.is.cert.tree ≡ head.nodes = (tree-behind some.bytes head some.is).1 in
-    let even = trees-even 1 some.is.cert.tree some.is.certificate.limits.tree in
-    record {
-      few_sets = limits.few_sets;
-      few_nodes = limits.few_nodes;
-      within = omega (arith, read);
-      trees = record { few = omega (arith, one, read, limits.some_nodes); none = λ none. absurd (omega (arith, one, none)) };
-      even = omega (arith, even, one, read, nodes);
-      done = λ done. absurd (false≢true (sym undone ∙ done));
-      short = omega (arith, ap length partial);
-    }
-
-pub starts-taken : (judge : Judge) (head : Head) (r : TreeReader) → r.read ≡ 0 → r.is_done ≡ false → r.starts.items ≡ judge.root.now ∷ [] → r.partial ≡ [] → HasTaken judge head r []
-starts-taken judge head r read undone starts partial =
-    record {
-      read = [];
-      count = sym read;
-      limits = tt;
-      walk = subst (λ (items : List Fix). IsWalk judge [] (starts_of items)) (sym starts) (walk-start judge);
-      plain = subst IsLine (sym partial) no-byte;
-      parts = sym (ap (λ (d : Bool). text_of (lines_of [] d) ++ r.partial) undone ∙ partial);
-    }

@@ -4,6 +4,7 @@ pub mod FlatSlots
 pub mod ListedCosts
 pub mod RentPlaces
 pub mod StandingRents
+pub mod CandidateRents
 pub mod StandingValue
 pub mod CoveredRents
 pub mod CheaperPrices

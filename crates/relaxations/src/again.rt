@@ -119,7 +119,7 @@ impl Planner {
     }
 
     /// How many sets the plan names, zeros left out and the root's counted in any case.
-    pub(crate) fn named(&self) -> usize {
+    fn named(&self) -> usize {
         let uses = self.uses();
         let mut count = 1usize;
         for set in 2..MOST_SETS {

@@ -59,8 +59,7 @@ impl Planner {
         swap_sets(tree, 1, (best & 255) as u8);
     }
 
-    /// Plans along a tree with the sets that there are; whether no leaf is left open and there are no more sets than there may
-    /// be.
+    /// Plans along a tree with the sets that there are; whether no leaf is left open.
     pub(crate) fn plan_retracing(&mut self, task: &Task<'_>, tree: &[PlanNode]) -> bool {
         let most_asked = (tree.len() as u64).saturating_mul(TIMES_ASKED);
         let own = Task {
@@ -69,7 +68,7 @@ impl Planner {
         };
         self.begin_anew();
         let _ = self.retrace(&own, tree, 0, MOST_LEVELS);
-        !self.has_open && self.named() < task.most_sets
+        !self.has_open
     }
 
     /// Plans below the present node along a tree from a place; the place behind what is below it.

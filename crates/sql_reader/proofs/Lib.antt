@@ -7,6 +7,7 @@ pub mod Exactly
 pub mod Good
 pub mod Keeps
 pub mod KeptExpressions
+pub mod KeptParts
 pub mod KeptStatements
 pub mod KindSets
 pub mod KnownWords

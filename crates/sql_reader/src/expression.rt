@@ -4,17 +4,12 @@ ghost use Rattle.sql_reader.specs.inner.Reads.{AddsBy, AddsNested};
 ghost use Rattle.sql_reader.specs.inner.Room as room;
 ghost use Rattle.sql_reader.specs.Rule.{Call, Parenthesis, Signed};
 ghost use Rattle.sql_reader.specs.Values as values;
-ghost use Rattle.std.specs.Prelude.{◌≡◌, OnOk, IfErr};
-ghost use Rattle.sql_reader.specs.declared.cursor.Unread.TheVariants.{Memory};
+ghost use Rattle.std.specs.Prelude.{◌≡◌};
 
 use crate::cursor::{Cursor, GrammarReader, Unread};
-use crate::list::push;
 use crate::literal::{LITERALS, SIGNS};
 use crate::name::{NAMES, PLAIN_NAMES};
-use crate::{Expr, ExprForm, NameUse, Seen, Terminal, TerminalKind};
-use adv_base::List;
-use sql_tokens::Span;
-use std::alloc::Global;
+use crate::{ExprForm, NameUse, Seen, Terminal, TerminalKind};
 
 /// The operators between two operands.
 pub const OPERATORS: [TerminalKind; 4] = [
@@ -57,68 +52,6 @@ impl TerminalKind {
         match self {
             TerminalKind::Aggregate => true,
             _ => false,
-        }
-    }
-}
-
-impl Seen {
-    /// Nothing yet.
-    pub fn new(alloc: Global) -> Seen
-        ensures { result ≡ values.nothing_found }
-    {
-        Seen {
-            uses: List::new(alloc),
-            stars: 0,
-            aggregate: false,
-            form: ExprForm::Other,
-        }
-    }
-
-    /// Adds a column.
-    pub fn add_use(&mut self, name: NameUse) -> Result<(), Unread>
-        ensures ok { OnOk result (self.new ≡ values.with_use self.old name) }
-        ensures err { IfErr result (λ stop. stop ≡ Memory) }
-        ensures stars { self.new.stars ≡ self.old.stars }
-    {
-        push(&mut self.uses, name)?;
-        self.form = ExprForm::Column;
-        Ok(())
-    }
-
-    /// The columns alone.
-    pub fn into_uses(self) -> List<NameUse>
-        ensures { result ≡ self.uses }
-    {
-        let Seen {
-            uses,
-            stars: _,
-            aggregate: _,
-            form: _,
-        } = self;
-        uses
-    }
-
-    /// What the expression is.
-    pub fn expr(self) -> Expr
-        ensures { result ≡ values.expr_of self }
-    {
-        let Seen {
-            uses,
-            stars,
-            aggregate,
-            form,
-        } = self;
-        let (plain, ordinal) = match form {
-            ExprForm::Column => (true, None),
-            ExprForm::Number(number) => (false, Some(number)),
-            ExprForm::Other => (false, None),
-        };
-        Expr {
-            uses,
-            stars,
-            plain,
-            aggregate,
-            ordinal,
         }
     }
 }

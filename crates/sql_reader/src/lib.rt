@@ -30,6 +30,7 @@ mod law;
 mod list;
 mod literal;
 mod name;
+mod order;
 mod parsed;
 mod parsed_text;
 mod parts;

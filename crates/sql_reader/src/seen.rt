@@ -1,7 +1,10 @@
 //! What is seen of an expression so far.
 
-use crate::NameUse;
+use crate::cursor::Unread;
+use crate::list::push;
+use crate::{Expr, NameUse};
 use adv_base::List;
+use std::alloc::Global;
 
 /// What the expression that was read last is.
 #[derive(Clone, Copy)]
@@ -21,4 +24,70 @@ pub struct Seen {
     pub stars: u32,
     pub aggregate: bool,
     pub form: ExprForm,
+}
+
+impl Seen {
+    ghost use Rattle.std.specs.Prelude.{◌≡◌, OnOk, IfErr};
+    ghost use Rattle.sql_reader.specs.Values as values;
+    ghost use Rattle.sql_reader.specs.declared.cursor.Unread.TheVariants.{Memory};
+
+    /// Nothing yet.
+    pub fn new(alloc: Global) -> Seen
+        ensures { result ≡ values.nothing_found }
+    {
+        Seen {
+            uses: List::new(alloc),
+            stars: 0,
+            aggregate: false,
+            form: ExprForm::Other,
+        }
+    }
+
+    /// Adds a column.
+    pub fn add_use(&mut self, name: NameUse) -> Result<(), Unread>
+        ensures ok { OnOk result (self.new ≡ values.with_use self.old name) }
+        ensures err { IfErr result (λ stop. stop ≡ Memory) }
+        ensures stars { self.new.stars ≡ self.old.stars }
+    {
+        push(&mut self.uses, name)?;
+        self.form = ExprForm::Column;
+        Ok(())
+    }
+
+    /// The columns alone.
+    pub fn into_uses(self) -> List<NameUse>
+        ensures { result ≡ self.uses }
+    {
+        let Seen {
+            uses,
+            stars: _,
+            aggregate: _,
+            form: _,
+        } = self;
+        uses
+    }
+
+    /// What the expression is.
+    pub fn expr(self) -> Expr
+        ensures { result ≡ values.expr_of self }
+    {
+        let Seen {
+            uses,
+            stars,
+            aggregate,
+            form,
+        } = self;
+        let (plain, ordinal) = match form {
+            ExprForm::Column => (true, None),
+            ExprForm::Number(number) => (false, Some(number)),
+            ExprForm::Other => (false, None),
+        };
+        Expr {
+            uses,
+            stars,
+            plain,
+            aggregate,
+            ordinal,
+        }
+    }
 }

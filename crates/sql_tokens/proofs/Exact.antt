@@ -15,7 +15,8 @@ use Rattle.sql_tokens.specs.declared.lexeme.NoLexeme.{NoLexeme}
 use Rattle.sql_tokens.specs.declared.lexeme.NoLexeme.TheVariants as stop
 use Rattle.sql_tokens.proofs.Runs.{run-stops, drop-front}
 use Rattle.sql_tokens.proofs.AtLeast.{AtLeast, at_least, front-number, front-decimal, begins-all, number_lexeme-decimal}
-use Rattle.sql_tokens.proofs.Sound.{FrontTells, tells, HasFront, has_quoted, is_that, first_of_begins}
+use Rattle.sql_tokens.proofs.Sound.{FrontTells, tells, HasFront, has_quoted, first_of_begins}
+use Rattle.sql_tokens.proofs.Endings.{is_that}
 
 text_open : (bs : List ℕ) (o : Option ℕ) → closing bs ≡ o → NoFront IsText (39 ∷ bs) → text_lexeme o ≡ Err stop.OpenText
 text_open bs None e n = refl

@@ -1,5 +1,6 @@
 pub mod Ahead
 pub mod AtLeast
+pub mod Endings
 pub mod Exact
 pub mod OneCut
 pub mod Places

@@ -12,7 +12,8 @@ use Rattle.sql_tokens.specs.Form.{IsWhole, IsLineComment}
 use Rattle.sql_tokens.specs.Front.{further}
 use Rattle.sql_tokens.specs.Weight.{weight_word, is_margins, number_end, weight_end, weight_length, HoldsWeight}
 use Rattle.sql_tokens.proofs.Runs.{run-append, drop-front, list_all-run}
-use Rattle.sql_tokens.proofs.Sound.{run_of, is_that}
+use Rattle.sql_tokens.proofs.Sound.{run_of}
+use Rattle.sql_tokens.proofs.Endings.{is_that}
 
 run-ends : (p : ℕ → Bool) (xs ys : List ℕ) → list_all p xs ≡ true → begins p ys ≡ false → prefix_len p (xs ++ ys) ≡ length xs
 run-ends p xs [] h b = run-append p xs [] h ∙ omega arith

@@ -18,7 +18,7 @@ use Rattle.sql_tokens.specs.declared.lexeme.Form.TheVariants as form
 use Rattle.sql_tokens.proofs.Ahead.{ahead_end}
 use Rattle.sql_tokens.proofs.Exact.{stands_front}
 use Rattle.sql_tokens.proofs.Places.{tokens-lie}
-use Rattle.sql_tokens.proofs.Sound.{is_that}
+use Rattle.sql_tokens.proofs.Endings.{is_that}
 use Rattle.sql_reader.specs.declared.kind.TerminalKind.{TerminalKind}
 use Rattle.sql_reader.specs.declared.kind.TerminalKind.TheVariants as kinds
 use Rattle.sql_reader.specs.declared.terminal.Terminal.{Terminal}

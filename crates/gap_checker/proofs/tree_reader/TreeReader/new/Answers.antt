@@ -1,5 +1,5 @@
 use Rattle.std.proofs.Common.{◌∙◌, ◌∷◌, ◌++◌, [], refl, ap}
-use Rattle.gap_checker.proofs.Reading.{starts-fit, starts-taken}
+use Rattle.gap_checker.proofs.Begun.{starts-fit, starts-taken}
 use Rattle.gap_checker.proofs.tree_reader.TreeReader.new.Goals as goal
 
 pub returns-clause-fits : goal.returns-clause-fits
