@@ -1,7 +1,7 @@
 -- What is answered over a command's files is an answer to the command.
-use Rattle.std.proofs.Common.{◌≡◌, ℕ, ◌≤◌, Bool, true, false, List, [], ◌∷◌, ◌++◌, length, map, drop, Option, Some, None, refl, ap, ◌∙◌, arith}
+use Rattle.std.proofs.Common.{◌≡◌, ℕ, ◌≤◌, Bool, true, false, List, [], ◌∷◌, length, map, drop, Option, Some, None, refl, ap, ◌∙◌, arith}
 use Rattle.std.specs.Prelude.{MatchBool}
-use Rattle.adv_base.specs.declared.limits.TheConstants.{MOST_CERTIFICATE_BYTES, MOST_FILE_BYTES}
+use Rattle.adv_base.specs.declared.limits.TheConstants.{MOST_FILE_BYTES}
 use Rattle.adv_shelf.specs.Shelf.{Files}
 use Rattle.adv_base.specs.Settings.{TheSetting}
 use Rattle.report.specs.Advices.{needs_setting}
@@ -10,16 +10,15 @@ use Rattle.report.specs.Texts.{done_text}
 use Rattle.report.specs.declared.done.Done.{Done}
 use Rattle.report.specs.declared.done.Done.TheVariants as answers
 use Rattle.report.specs.declared.done.Refusal.{Refusal}
-use Rattle.report.specs.declared.done.Role.TheVariants.{Third, Fourth}
 use Rattle.workload_gen.proofs.Lengths.{workload_short}
 use Rattle.report.specs.declared.done.Refusal.TheVariants.{TooLong, Cat, Sql, Bind}
 use Rattle.cophy_core.specs.declared.stop.Stop.{Stop}
 use Rattle.cophy_core.specs.declared.stop.Stop.TheVariants.{Memory, Failed, Refused}
 use Rattle.cophy_core.specs.Answers.{OfSetting, Answers}
 use Rattle.cophy_core.specs.commands.{RefusesOver, GivesOver, files_put, PutsOver, files_of}
-use Rattle.command_line.specs.CommandLine.{PlainCommand, Candidates, Cost, WhatIf, Explain, Advise, Ruled, Sweep, Retune, Check, CheckRuled, Fold, Bench}
+use Rattle.command_line.specs.CommandLine.{PlainCommand, Advise, Ruled, Sweep, CheckRuled, Fold, Bench}
 use Rattle.command_line.specs.Spellings.{IsInRange}
-use Rattle.cophy_core.specs.Files.{InputFile, input_file, setting_files, AreInputs, input, ReadCounts}
+use Rattle.cophy_core.specs.Files.{InputFile, AreInputs, input, ReadCounts}
 use Rattle.cophy_core.specs.Inputs.{HasInputs}
 use Rattle.cophy_core.specs.Reading.{StopsReading, StopsAtFiles}
 use Rattle.cophy_core.specs.Settings.{IsSetting, IsSettingRefusal}

@@ -1,5 +1,5 @@
 -- What a command gives over what was read for it is given over its files.
-use Rattle.std.proofs.Common.{◌≡◌, inl, inr, ℕ, ◌≤◌, List, [], ◌∷◌, ◌++◌, length, Option, None, Some, refl, ap, ◌∙◌, append_assoc, sym, subst}
+use Rattle.std.proofs.Common.{◌≡◌, inl, inr, ℕ, ◌≤◌, List, [], ◌∷◌, ◌++◌, length, Option, None, Some, refl, ap, ◌∙◌, append_assoc, sym, subst, arith}
 use Rattle.std.specs.Prelude.{IsSomeAnd, option_to_list}
 use Rattle.adv_base.specs.Settings.{TheSetting}
 use Rattle.adv_base.specs.declared.limits.TheConstants.{MOST_CERTIFICATE_BYTES, MOST_FILE_BYTES}
@@ -12,9 +12,9 @@ use Rattle.report.specs.declared.done.Role.{Role}
 use Rattle.report.specs.declared.done.Role.TheVariants.{Third, Fourth}
 use Rattle.cophy_core.specs.commands.{whole_files, certificate_of, files_of, GivesOver, PutsOver}
 use Rattle.cophy_core.specs.Endings.{Put}
-use Rattle.command_line.specs.CommandLine.{PlainCommand, Ruled, Check, CheckRuled, Bench}
+use Rattle.command_line.specs.CommandLine.{PlainCommand, Candidates, Cost, WhatIf, Explain, Advise, Ruled, Sweep, Retune, Check, CheckRuled, Fold, Bench}
 use Rattle.cophy_core.specs.Files.{InputFile, IsInput, SomeInput, AreInputs, ReadCounts, input, input_file, setting_files, three_files}
-use Rattle.cophy_core.specs.Inputs.{HasInputs, HasWhole, HasRead}
+use Rattle.cophy_core.specs.Inputs.{HasInputs, HasWhole, HasScanned, HasRead}
 use Rattle.cophy_core.specs.Reading.{IsUnreadFile, StopsReading, StopsAtFiles}
 use Rattle.cophy_core.specs.Settings.{IsSetting, IsSettingRefusal}
 use Rattle.command_line.specs.Spellings.{IsInRange}
@@ -88,19 +88,40 @@ workload_short command files read range h =
     let t = texts_read command files read h in
     subst (λ (bytes : List ℕ). length bytes ≤ MOST_FILE_BYTES) t.second (second_short command files t.texts range t.texts_are)
 
--- the third of the files is within its limit
-third_file : (files : Option Files) (cat load : List ℕ) (file : InputFile) (inputs : List (List ℕ)) → AreInputs files (setting_files cat load ++ file ∷ []) inputs → length (input inputs 2) ≤ file.most
-third_file files cat load file [] are = absurd are
-third_file files cat load file (a ∷ []) are = absurd are.1
-third_file files cat load file (a ∷ b ∷ []) are = absurd are.1.1
-third_file files cat load file (a ∷ b ∷ c ∷ inputs) are = are.1.1.0.short
+-- the third of the files that are held whole is within its limit, where there is one
+two_files : (files : Option Files) (cat load : List ℕ) (inputs : List (List ℕ)) → AreInputs files (setting_files cat load) inputs → length (input inputs 2) ≤ MOST_FILE_BYTES
+two_files files cat load [] are = absurd are
+two_files files cat load (a ∷ []) are = absurd are.1
+two_files files cat load (a ∷ b ∷ []) are = omega arith
+two_files files cat load (a ∷ b ∷ c ∷ inputs) are = absurd are.1.1
 
--- and so are rules
-pub rules_short : (files : Option Files) (cat load rules : List ℕ) (budget nodes : ℕ) (cert : Option (List ℕ)) (read : Inputs) → HasRead files (Ruled cat load budget rules nodes cert) read → length (input read.whole 2) ≤ MOST_FILE_BYTES
-rules_short files cat load rules budget nodes cert read h = third_file files cat load (input_file Third rules MOST_FILE_BYTES) read.whole h.0
+third_file : (files : Option Files) (cat load third : List ℕ) (inputs : List (List ℕ)) → AreInputs files (three_files cat load third) inputs → length (input inputs 2) ≤ MOST_FILE_BYTES
+third_file files cat load third [] are = absurd are
+third_file files cat load third (a ∷ []) are = absurd are.1
+third_file files cat load third (a ∷ b ∷ []) are = absurd are.1.1
+third_file files cat load third (a ∷ b ∷ c ∷ inputs) are = are.1.1.0.short
 
-pub own_rules_short : (files : Option Files) (cat load rules cert : List ℕ) (read : Inputs) → HasRead files (CheckRuled cat load rules cert) read → length (input read.whole 2) ≤ MOST_FILE_BYTES
-own_rules_short files cat load rules cert read h = third_file files cat load (input_file Third rules MOST_FILE_BYTES) read.whole h.0
+pub third_short : (command : PlainCommand) (files : Option Files) (whole : List (List ℕ)) → HasWhole files command whole → length (input whole 2) ≤ MOST_FILE_BYTES
+third_short (Candidates cat load) files whole are = two_files files cat load whole are
+third_short (Cost cat load) files whole are = two_files files cat load whole are
+third_short (WhatIf cat load conf) files whole are = third_file files cat load conf whole are
+third_short (Explain cat load conf number) files whole are = third_file files cat load conf whole are
+third_short (Advise cat load budget nodes cert) files whole are = two_files files cat load whole are
+third_short (Ruled cat load budget rules nodes cert) files whole are = third_file files cat load rules whole are
+third_short (Sweep cat load first step count nodes cert) files whole are = two_files files cat load whole are
+third_short (Retune cat load edits budget nodes) files whole are = third_file files cat load edits whole are
+third_short (Check cat load cert) files whole are = two_files files cat load whole are
+third_short (CheckRuled cat load rules cert) files whole are = third_file files cat load rules whole are
+third_short (Fold cat load out) files whole are = two_files files cat load whole are
+third_short (Bench seed tables statements budget) files whole are = rw are (omega arith)
+
+-- where nothing was scanned, there is no certificate
+pub no_certificate : (command : PlainCommand) (files : Option Files) (scanner : Option Scanner) → HasScanned files (certificate_of command) scanner → scanner ≡ None → None ≡ certificate_of command
+no_certificate (Check cat load cert) files None h e = absurd h
+no_certificate (CheckRuled cat load rules cert) files None h e = absurd h
+no_certificate (Check cat load cert) files (Some scanner) h e = absurd cc
+no_certificate (CheckRuled cat load rules cert) files (Some scanner) h e = absurd cc
+no_certificate command files scanner h e = refl
 
 -- ## Reading that stops
 
@@ -142,7 +163,7 @@ setting_refused command files before after read stop h why =
 
 -- the work stops
 pub work_stopped : (command : PlainCommand) (files : Option Files) (start before after : ReadCounts) (read : Inputs) (setting : TheSetting) (left_over : ℕ) (stop : Stop) → HasRead files command read →
-    IsSetting (input read.whole 0) (input read.whole 1) setting left_over → start.all ≤ before.all → ((n : List ℕ) → start.at n ≤ before.at n) → StopsWork files command before after read setting stop → StopsAtFiles command files start after stop
+    IsSetting (input read.whole 0) (input read.whole 1) setting left_over → start.all ≤ before.all → ((n : List ℕ) → start.at n ≤ before.at n) → StopsWork files command before after read.whole setting stop → StopsAtFiles command files start after stop
 work_stopped (Check cat load cert) files start before after read setting left_over stop h is all at why =
     certificate_stops files (Check cat load cert) (setting_files cat load) (certificate_file Third cert) read.whole start before after stop refl h.0 all at why
 work_stopped (CheckRuled cat load rules cert) files start before after read setting left_over stop h is all at (inl refused) =
@@ -165,7 +186,7 @@ pub record Given (files : Option Files) (command : PlainCommand) (whole : List (
   pub puts_are : (puts : List Put) → PutsOver command whole setting done puts → PutsOver command texts setting done puts
 
 pub work_given : (command : PlainCommand) (files : Option Files) (read : Inputs) (setting : TheSetting) (left_over : ℕ) (done : Done) → HasRead files command read → IsSetting (input read.whole 0) (input read.whole 1) setting left_over →
-    GivesRead files command read setting done → Given files command read.whole setting left_over done
+    GivesRead files command read.whole setting done → Given files command read.whole setting left_over done
 work_given (Check cat load cert) files read setting left_over done h is gives =
     let all = with_third files cat load cert read.whole gives.0 h.0 gives.1 in
     record { texts = all.texts.texts; texts_are = all.texts.texts_are; setting_is = rw (all.texts.first, all.texts.second) is; gives = rw all.third gives.2; puts_are = λ puts h. h }

@@ -4,7 +4,6 @@ use Rattle.adv_shelf.specs.Shelf.{Files}
 use Rattle.adv_base.specs.Settings.{TheSetting}
 use Rattle.report.specs.declared.done.Done.{Done}
 use Rattle.report.specs.declared.done.Done.TheVariants.{Refused}
-use Rattle.report.specs.declared.done.Refusal.{Refusal}
 use Rattle.report.specs.declared.done.Refusal.TheVariants.{TooLong, Cat, Sql, Bind}
 use Rattle.command_line.specs.CommandLine.{PlainCommand}
 use Rattle.cophy_core.specs.Files.{input, IsTooLong}

@@ -1,6 +1,6 @@
 -- Files that a command may read, and what they hold.
 use Rattle.std.specs.Prelude.{◌≡◌, ℕ, ◌<◌, ◌≤◌, List, [], ◌∷◌, ◌++◌, length, map, slice_index_or, Option}
-use Rattle.adv_base.specs.declared.limits.TheConstants.{MOST_FILE_BYTES, MOST_CERTIFICATE_BYTES}
+use Rattle.adv_base.specs.declared.limits.TheConstants.{MOST_FILE_BYTES}
 use Rattle.adv_shelf.specs.Faults.{Rose}
 use Rattle.adv_shelf.specs.Shelf.{Files, HasFile, IsFile}
 use Rattle.report.specs.declared.done.Role.{Role}

@@ -2,6 +2,7 @@
 use Rattle.std.specs.Prelude.{◌≡◌, ℕ, List, [], ◌∷◌, Option, Some, None, IsSomeAnd}
 use Rattle.adv_shelf.specs.Shelf.{Files}
 use Rattle.certificate.specs.Scanners.{StandsFor}
+use Rattle.certificate.specs.declared.scanner.Scanner.{Scanner}
 use Rattle.workload_gen.specs.Texts.{catalogue_text, workload_text}
 use Rattle.cophy_core.specs.declared.files.Inputs.{Inputs}
 use Rattle.cophy_core.specs.Files.{InputFile, AreInputs, SomeInput}
@@ -18,11 +19,11 @@ abbrev pub HasWhole : Option Files → PlainCommand → List (List ℕ) → Type
 HasWhole files (Bench seed tables statements budget) whole = HasInputs files (Bench seed tables statements budget) whole
 HasWhole files command whole = AreInputs files (whole_files command) whole
 
--- where there is a certificate, a scanner stands for its bytes
-abbrev pub HasScanned : Option Files → Option InputFile → Inputs → Type 0
-HasScanned files (Some file) read = IsSomeAnd read.scanner (λ scanner. SomeInput files file (StandsFor scanner))
-HasScanned files None read = Unit {0}
+-- a scanner stands for the bytes of the certificate, if there is one
+abbrev pub HasScanned : Option Files → Option InputFile → Option Scanner → Type 0
+HasScanned files (Some file) scanner = IsSomeAnd scanner (λ s. SomeInput files file (StandsFor s))
+HasScanned files None scanner = scanner ≡ None
 
 -- what is kept of all of them
 abbrev pub HasRead : Option Files → PlainCommand → Inputs → Type 0
-HasRead files command read = HasWhole files command read.whole × HasScanned files (certificate_of command) read
+HasRead files command read = HasWhole files command read.whole × HasScanned files (certificate_of command) read.scanner

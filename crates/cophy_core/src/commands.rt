@@ -1,5 +1,6 @@
 //! What each command reads, and what it works out, a file a command.
-ghost use Rattle.std.specs.Prelude.{◌≡◌, ◌≤◌, ℕ, List, Some, IfOk, IfErr, option_map};
+ghost use Rattle.std.specs.Prelude.{◌≡◌, ◌≤◌, ℕ, List, length, None, Some, IfOk, IfErr, option_map};
+ghost use Rattle.adv_base.specs.declared.limits.TheConstants.{MOST_FILE_BYTES};
 ghost use Rattle.adv_base.specs.Settings.{the_setting};
 ghost use Rattle.candidates.specs.Candidates.{AreCandidates};
 ghost use Rattle.candidates.specs.Growing.{IsProposed};
@@ -9,9 +10,10 @@ ghost use Rattle.report.specs.Texts.{FitsSetting};
 ghost use Rattle.cophy_core.specs.Causes.{IsBounded};
 ghost use Rattle.cophy_core.specs.Endings.{plain_puts};
 ghost use Rattle.cophy_core.specs.Files.{counts, input, input_file};
-ghost use Rattle.cophy_core.specs.Inputs.{HasWhole, HasRead};
+ghost use Rattle.cophy_core.specs.Inputs.{HasWhole, HasScanned, HasRead};
 ghost use Rattle.cophy_core.specs.Reading.{StopsReading, StopsAtFiles};
-ghost use Rattle.cophy_core.specs.Settings.{IsSetting};
+ghost use Rattle.cophy_core.specs.Settings.{IsSetting, AreStatementsOf};
+ghost use Rattle.cophy_core.specs.Stops.{StopsAt};
 ghost use Rattle.cophy_core.specs.commands as meaning;
 ghost use Rattle.cophy_core.specs.inner.Work.{GivesRead, StopsWork};
 
@@ -26,6 +28,7 @@ pub(crate) mod list_candidates;
 pub(crate) mod remembered;
 pub(crate) mod retune_workload;
 pub(crate) mod ruled;
+pub(crate) mod session;
 pub(crate) mod sweep;
 pub(crate) mod what_if;
 
@@ -38,6 +41,7 @@ use crate::worked::Worked;
 use adv_base::{Bytes, List, Setting};
 use adv_shelf::Shelf;
 use candidates::Proposed;
+use certificate::Scanner;
 use command_line::Command;
 use report::Role;
 use std::alloc::Global;
@@ -147,37 +151,31 @@ pub(crate) fn inputs_of<S: Shelf>(
     }
 }
 
-/// What a command gives over what was read for it and the setting of the first two files, whose workload proposes this, of which
-/// `left_over` indexes are no candidates, and the files that it puts for that.
-pub(crate) fn work<S: Shelf>(
+/// What a command that reads no certificate gives over the files that were read for it and the setting of the first two, whose
+/// workload proposes this, of which `left_over` indexes are no candidates, and the files that it puts for that.
+fn over(
     alloc: Global,
-    shelf: &mut S,
     command: &Command<'_>,
-    inputs: Inputs,
+    whole: &List<Bytes>,
     setting: &Setting<'_>,
     left_over: u64,
     proposed: Proposed,
 ) -> Result<Worked, Stop>
     requires range { IsInRange (plain_command command.now) }
-    requires read { HasRead (S.files shelf.old) (plain_command command.now) inputs }
+    requires certificate { None ≡ meaning.certificate_of (plain_command command.now) }
+    requires short { length (input whole.now 1) ≤ MOST_FILE_BYTES }
+    requires third_short { length (input whole.now 2) ≤ MOST_FILE_BYTES }
+    requires read { AreStatementsOf setting.now.cat.now (input whole.now 1) setting.now.statements.now }
     requires found { AreCandidates setting.now.cat.now setting.now.statements.now setting.now.shapes.now left_over }
     requires proposed { IsProposed setting.now.cat.now setting.now.statements.now proposed }
-    requires opened { IsSetting (input inputs.whole 0) (input inputs.whole 1) (the_setting setting.now) left_over }
-    ensures gives { IfOk result (λ worked. GivesRead (S.files shelf.old) (plain_command command.now) inputs (the_setting setting.now) worked.done) }
-    ensures puts { IfOk result (λ worked. meaning.PutsOver (plain_command command.now) inputs.whole (the_setting setting.now) worked.done (plain_puts worked.puts)) }
+    ensures gives { IfOk result (λ worked. meaning.GivesOver (plain_command command.now) whole.now (the_setting setting.now) worked.done) }
+    ensures puts { IfOk result (λ worked. meaning.PutsOver (plain_command command.now) whole.now (the_setting setting.now) worked.done (plain_puts worked.puts)) }
     ensures fits { IfOk result (λ worked. FitsSetting (Some (the_setting setting.now)) worked.done) }
     ensures bound { IfOk result (λ worked. IsBounded worked.done) }
-    ensures stop { IfErr result (StopsWork (S.files shelf.old) (plain_command command.now) (counts (S.read_faults shelf.old) (S.read_faults_at shelf.old))
-        (counts (S.read_faults shelf.new) (S.read_faults_at shelf.new)) inputs (the_setting setting.now)) }
-
-    ensures files { S.files shelf.new ≡ S.files shelf.old }
-    ensures counts { S.read_faults shelf.old ≤ S.read_faults shelf.new }
-    ensures counts_at { (n : List ℕ) → S.read_faults_at shelf.old n ≤ S.read_faults_at shelf.new n }
-    ensures puts_kept { S.put_faults shelf.new ≡ S.put_faults shelf.old }
+    ensures stop { IfErr result (StopsAt (meaning.RefusesOver (plain_command command.now) whole.now (the_setting setting.now))) }
 {
-    let Inputs { whole, scanner } = inputs;
-    let load = bytes_at(&whole, 1);
-    let third = bytes_at(&whole, 2);
+    let load = bytes_at(whole, 1);
+    let third = bytes_at(whole, 2);
     match *command {
         Command::Cost { .. } => Ok(Worked::alone(alloc, cost::cost(alloc, setting)?)),
         Command::WhatIf { .. } => {
@@ -218,26 +216,86 @@ pub(crate) fn work<S: Shelf>(
             )?;
             Ok(Worked::alone(alloc, done))
         }
-        Command::Check { cert, .. } => match scanner {
-            Some(scanner) => {
-                let file = certificate_file(Role::Third, cert);
-                let done = check::check(alloc, setting, shelf, &file, scanner)?;
-                Ok(Worked::alone(alloc, done))
-            }
-            None => unreachable!(),
-        },
-        Command::CheckRuled { cert, .. } => match scanner {
-            Some(scanner) => {
-                let file = certificate_file(Role::Fourth, cert);
-                let done = check_ruled::check_ruled(alloc, setting, third, shelf, &file, scanner)?;
-                Ok(Worked::alone(alloc, done))
-            }
-            None => unreachable!(),
-        },
         Command::Fold { out, .. } => fold::fold(alloc, setting, load, out),
         Command::Bench { budget, .. } => {
             let done = bench::bench(alloc, setting, left_over, budget)?;
             Ok(Worked::alone(alloc, done))
         }
+        Command::Check { .. } | Command::CheckRuled { .. } => unreachable!(),
+    }
+}
+
+/// What a check of a certificate, which that scanner was handed, gives over the files that were read for it and the setting of
+/// the first two.
+fn checked<S: Shelf>(
+    alloc: Global,
+    shelf: &mut S,
+    command: &Command<'_>,
+    whole: &List<Bytes>,
+    setting: &Setting<'_>,
+    scanner: Scanner,
+) -> Result<Worked, Stop>
+    requires scanned { HasScanned (S.files shelf.old) (meaning.certificate_of (plain_command command.now)) (Some scanner) }
+    requires third_short { length (input whole.now 2) ≤ MOST_FILE_BYTES }
+    ensures gives { IfOk result (λ worked. GivesRead (S.files shelf.old) (plain_command command.now) whole.now (the_setting setting.now) worked.done) }
+    ensures puts { IfOk result (λ worked. meaning.PutsOver (plain_command command.now) whole.now (the_setting setting.now) worked.done (plain_puts worked.puts)) }
+    ensures fits { IfOk result (λ worked. FitsSetting (Some (the_setting setting.now)) worked.done) }
+    ensures bound { IfOk result (λ worked. IsBounded worked.done) }
+    ensures stop { IfErr result (StopsWork (S.files shelf.old) (plain_command command.now) (counts (S.read_faults shelf.old) (S.read_faults_at shelf.old))
+        (counts (S.read_faults shelf.new) (S.read_faults_at shelf.new)) whole.now (the_setting setting.now)) }
+
+    ensures files { S.files shelf.new ≡ S.files shelf.old }
+    ensures counts { S.read_faults shelf.old ≤ S.read_faults shelf.new }
+    ensures counts_at { (n : List ℕ) → S.read_faults_at shelf.old n ≤ S.read_faults_at shelf.new n }
+    ensures puts_kept { S.put_faults shelf.new ≡ S.put_faults shelf.old }
+{
+    match *command {
+        Command::Check { cert, .. } => {
+            let file = certificate_file(Role::Third, cert);
+            let done = check::check(alloc, setting, shelf, &file, scanner)?;
+            Ok(Worked::alone(alloc, done))
+        }
+        Command::CheckRuled { cert, .. } => {
+            let file = certificate_file(Role::Fourth, cert);
+            let rules = bytes_at(whole, 2);
+            let done = check_ruled::check_ruled(alloc, setting, rules, shelf, &file, scanner)?;
+            Ok(Worked::alone(alloc, done))
+        }
+        _ => unreachable!(),
+    }
+}
+
+/// What a command gives over what was read for it and the setting of the first two files, whose workload proposes this, of which
+/// `left_over` indexes are no candidates, and the files that it puts for that.
+pub(crate) fn work<S: Shelf>(
+    alloc: Global,
+    shelf: &mut S,
+    command: &Command<'_>,
+    inputs: Inputs,
+    setting: &Setting<'_>,
+    left_over: u64,
+    proposed: Proposed,
+) -> Result<Worked, Stop>
+    requires range { IsInRange (plain_command command.now) }
+    requires read { HasRead (S.files shelf.old) (plain_command command.now) inputs }
+    requires found { AreCandidates setting.now.cat.now setting.now.statements.now setting.now.shapes.now left_over }
+    requires proposed { IsProposed setting.now.cat.now setting.now.statements.now proposed }
+    requires opened { IsSetting (input inputs.whole 0) (input inputs.whole 1) (the_setting setting.now) left_over }
+    ensures gives { IfOk result (λ worked. GivesRead (S.files shelf.old) (plain_command command.now) inputs.whole (the_setting setting.now) worked.done) }
+    ensures puts { IfOk result (λ worked. meaning.PutsOver (plain_command command.now) inputs.whole (the_setting setting.now) worked.done (plain_puts worked.puts)) }
+    ensures fits { IfOk result (λ worked. FitsSetting (Some (the_setting setting.now)) worked.done) }
+    ensures bound { IfOk result (λ worked. IsBounded worked.done) }
+    ensures stop { IfErr result (StopsWork (S.files shelf.old) (plain_command command.now) (counts (S.read_faults shelf.old) (S.read_faults_at shelf.old))
+        (counts (S.read_faults shelf.new) (S.read_faults_at shelf.new)) inputs.whole (the_setting setting.now)) }
+
+    ensures files { S.files shelf.new ≡ S.files shelf.old }
+    ensures counts { S.read_faults shelf.old ≤ S.read_faults shelf.new }
+    ensures counts_at { (n : List ℕ) → S.read_faults_at shelf.old n ≤ S.read_faults_at shelf.new n }
+    ensures puts_kept { S.put_faults shelf.new ≡ S.put_faults shelf.old }
+{
+    let Inputs { whole, scanner } = inputs;
+    match scanner {
+        None => over(alloc, command, &whole, setting, left_over, proposed),
+        Some(scanner) => checked(alloc, shelf, command, &whole, setting, scanner),
     }
 }

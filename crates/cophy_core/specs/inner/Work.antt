@@ -5,7 +5,6 @@ use Rattle.adv_base.specs.Settings.{TheSetting}
 use Rattle.adv_shelf.specs.Shelf.{Files}
 use Rattle.report.specs.declared.done.Done.{Done}
 use Rattle.report.specs.declared.done.Role.TheVariants.{Third, Fourth}
-use Rattle.cophy_core.specs.declared.files.Inputs.{Inputs}
 use Rattle.cophy_core.specs.declared.stop.Stop.{Stop}
 use Rattle.cophy_core.specs.commands.Check as check
 use Rattle.cophy_core.specs.commands.CheckRuled as check_ruled
@@ -17,12 +16,12 @@ use Rattle.cophy_core.specs.Stops.{StopsAt}
 
 -- A certificate is read once more. Where the shelf tells its files that finds the same bytes; else what is given is so
 -- of some bytes that the file may have held.
-abbrev pub GivesRead : Option Files → PlainCommand → Inputs → TheSetting → Done → Type 0
-GivesRead files (Check cat load cert) read setting done =
+abbrev pub GivesRead : Option Files → PlainCommand → List (List ℕ) → TheSetting → Done → Type 0
+GivesRead files (Check cat load cert) whole setting done =
     SomeInput files (input_file Third cert MOST_CERTIFICATE_BYTES) (λ bytes. check.Gives bytes setting done)
-GivesRead files (CheckRuled cat load rules cert) read setting done =
-    SomeInput files (input_file Fourth cert MOST_CERTIFICATE_BYTES) (λ bytes. check_ruled.Gives (input read.whole 2) bytes setting done)
-GivesRead files command read setting done = GivesOver command read.whole setting done
+GivesRead files (CheckRuled cat load rules cert) whole setting done =
+    SomeInput files (input_file Fourth cert MOST_CERTIFICATE_BYTES) (λ bytes. check_ruled.Gives (input whole 2) bytes setting done)
+GivesRead files command whole setting done = GivesOver command whole setting done
 
 -- rules are refused, or a read of the certificate failed
 abbrev pub StopsUnderRules : Option Files → InputFile → ReadCounts → ReadCounts → List ℕ → TheSetting → Stop → Type 0
@@ -30,9 +29,9 @@ StopsUnderRules files file before after rules setting stop =
     StopsAt (check_ruled.Refuses rules setting) stop ⊎ IsUnreadFile files before after file stop
 
 -- a read of the certificate failed, or the command refuses something
-abbrev pub StopsWork : Option Files → PlainCommand → ReadCounts → ReadCounts → Inputs → TheSetting → Stop → Type 0
-StopsWork files (Check cat load cert) before after read setting stop =
+abbrev pub StopsWork : Option Files → PlainCommand → ReadCounts → ReadCounts → List (List ℕ) → TheSetting → Stop → Type 0
+StopsWork files (Check cat load cert) before after whole setting stop =
     IsUnreadFile files before after (input_file Third cert MOST_CERTIFICATE_BYTES) stop
-StopsWork files (CheckRuled cat load rules cert) before after read setting stop =
-    StopsUnderRules files (input_file Fourth cert MOST_CERTIFICATE_BYTES) before after (input read.whole 2) setting stop
-StopsWork files command before after read setting stop = StopsAt (RefusesOver command read.whole setting) stop
+StopsWork files (CheckRuled cat load rules cert) before after whole setting stop =
+    StopsUnderRules files (input_file Fourth cert MOST_CERTIFICATE_BYTES) before after (input whole 2) setting stop
+StopsWork files command before after whole setting stop = StopsAt (RefusesOver command whole setting) stop

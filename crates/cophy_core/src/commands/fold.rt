@@ -1,5 +1,5 @@
 //! `fold`: a shorter workload that costs the same.
-ghost use Rattle.std.specs.Prelude.{◌≡◌, ◌≤◌, ◌<◌, ℕ, List, IfOk, IfErr, Some, length};
+ghost use Rattle.std.specs.Prelude.{◌≤◌, ◌<◌, ℕ, List, IfOk, IfErr, Some, length};
 ghost use Rattle.adv_base.specs.Settings.{the_setting};
 ghost use Rattle.adv_base.specs.declared.limits.TheConstants.{MOST_FILE_BYTES};
 ghost use Rattle.report.specs.Texts.{FitsSetting};

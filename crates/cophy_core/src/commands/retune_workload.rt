@@ -12,13 +12,14 @@ ghost use Rattle.programme_parts.specs.Combinations.{AreFew};
 ghost use Rattle.report.specs.Texts.{FitsSetting, FitsCatalogue};
 ghost use Rattle.cophy_core.specs.Causes.{IsBounded};
 ghost use Rattle.cophy_core.specs.Settings.{AreStatementsOf};
-ghost use Rattle.cophy_core.specs.Stops.{StopsAt, LacksProgramme};
+ghost use Rattle.cophy_core.specs.Stops.{StopsAt};
 ghost use Rattle.cophy_core.specs.commands.Retune as spec;
 ghost use Rattle.cophy_core.specs.inner.EditSteps as inner;
 
 use crate::commands::advise::best_advice;
 use crate::commands::list_candidates::copies;
 use crate::commands::remembered::{Remembered, earlier_of, numbers_now};
+use crate::commands::session::session_of;
 use crate::stop::Stop;
 use adv_base::{Catalogue, List, NoMemory, Setting, Statement};
 use binder::{BindFault, bind};
@@ -342,37 +343,6 @@ fn script_of<'a>(alloc: Global, script: &'a [u8]) -> Result<Edits<'a>, Stop>
         Ok(edits) => Ok(edits),
         Err(ScriptFault::Memory) => Err(Stop::Memory),
         Err(ScriptFault::BadLine(line)) => Err(refused(line, EditFault::BadLine)),
-    }
-}
-
-/// A session of the statements of a setting, which were read from these bytes and propose this.
-fn session_of<'a>(
-    alloc: Global,
-    setting: &Setting<'a>,
-    proposed: Proposed,
-    load: &[u8],
-) -> Result<Session<'a>, Stop>
-    requires proposed { IsProposed setting.now.cat.now setting.now.statements.now proposed }
-    requires read { AreStatementsOf setting.now.cat.now load.now setting.now.statements.now }
-    requires short { length load.now ≤ MOST_FILE_BYTES }
-    ensures cat { IfOk result (λ session. session.cat ≡ setting.now.cat.now) }
-    ensures statements { IfOk result (λ session. session.statements ≡ setting.now.statements.now) }
-    ensures few { IfOk result (λ _. AreFew setting.now.cat.now setting.now.statements.now) }
-    ensures stop { IfErr result (StopsAt (LacksProgramme (the_setting setting.now))) }
-{
-    let parsed = read_workload(alloc, load)?;
-    let statements = bind(alloc, setting.cat, &parsed)?;
-    match Session::over(alloc, setting.cat, statements, proposed) {
-        Ok(session) => Ok(session),
-        Err(RetuneFault::TooManyCombinations(number, count)) => {
-            Err(Stop::Refused(Refusal::TooManyCombinations(number, count)))
-        }
-        Err(RetuneFault::Memory) => Err(Stop::Memory),
-        Err(
-            RetuneFault::NoStatement(_)
-            | RetuneFault::TooManyStatements
-            | RetuneFault::TooManySlots,
-        ) => unreachable!(),
     }
 }
 

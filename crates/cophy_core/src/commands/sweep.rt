@@ -1,6 +1,6 @@
 //! `sweep`: which candidates to make within each of several budgets of pages.
-ghost use Rattle.std.specs.Prelude.{◌≡◌, ◌+◌, ◌-◌, ◌*◌, ◌≤◌, ◌++◌, ℕ, decimal, length, slice_get, string_bytes, option_map, IfOk, IfErr, Some};
-ghost use Rattle.adv_base.specs.declared.limits.TheConstants.{MOST_CANDIDATES, MOST_NODES, MOST_PAGES};
+ghost use Rattle.std.specs.Prelude.{◌≡◌, ◌+◌, ◌-◌, ◌*◌, ◌≤◌, ◌++◌, decimal, length, string_bytes, option_map, IfOk, IfErr, Some};
+ghost use Rattle.adv_base.specs.declared.limits.TheConstants.{MOST_NODES, MOST_PAGES};
 ghost use Rattle.adv_base.specs.Settings.{the_setting};
 ghost use Rattle.bip_model.specs.declared.point.Point as points;
 ghost use Rattle.bip_model.specs.StandsFor.{StandsFor};

@@ -62,7 +62,7 @@ returns-in_err-worked-clause-stop g c =
     let after = counts (g.S.Shelf.read_faults c.work.new.shelf) (g.S.Shelf.read_faults_at c.work.new.shelf) in
     let opened : IsSetting (input read.whole 0) (input read.whole 1) (setting_in c.in_ok-opened.opened) left_over = rw (c.bytes_at.ensures, c.bytes_at-2.ensures) at c.in_ok-opened.ensures.setting in
     let is : IsSetting (input read.whole 0) (input read.whole 1) setting left_over = subst (λ (s : TheSetting). IsSetting (input read.whole 0) (input read.whole 1) s left_over) (sym c.setting-setting.ensures) opened in
-    let why : StopsWork files command before after read setting stop = rw c.in_ok-inputs.ensures.files at c.in_err-worked.ensures.stop in
+    let why : StopsWork files command before after read.whole setting stop = rw c.in_ok-inputs.ensures.files at c.in_err-worked.ensures.stop in
     let h : StopsAtFiles command files start after stop =
     work_stopped command files start before after read setting left_over stop c.in_ok-inputs.ensures.inputs is c.in_ok-inputs.ensures.counts c.in_ok-inputs.ensures.counts_at why in
     search (rules, h)
@@ -80,7 +80,7 @@ returns-clause-reply g c =
     let text = c.in_ok-text.text in
     let opened : IsSetting (input read.whole 0) (input read.whole 1) (setting_in c.in_ok-opened.opened) left_over = rw (c.bytes_at.ensures, c.bytes_at-2.ensures) at c.in_ok-opened.ensures.setting in
     let is : IsSetting (input read.whole 0) (input read.whole 1) setting left_over = subst (λ (s : TheSetting). IsSetting (input read.whole 0) (input read.whole 1) s left_over) (sym c.setting-setting.ensures) opened in
-    let gives : GivesRead files command read setting done = rw c.in_ok-inputs.ensures.files at c.in_ok-worked.ensures.gives in
+    let gives : GivesRead files command read.whole setting done = rw c.in_ok-inputs.ensures.files at c.in_ok-worked.ensures.gives in
     let given = work_given command files read setting left_over done c.in_ok-inputs.ensures.inputs is gives in
     record {
       answers = work_gives command files given.texts setting left_over done given.texts_are given.setting_is given.gives;

@@ -1,8 +1,7 @@
-use Rattle.std.proofs.Common.{◌≡◌, Some, rules}
+use Rattle.std.proofs.Common.{rules}
 use Rattle.command_line.specs.CommandLine.{plain_command}
 use Rattle.cophy_core.specs.Files.{counts, input_file}
 use Rattle.cophy_core.specs.Reading.{IsUnreadFile, StopsAtFiles}
-use Rattle.cophy_core.specs.commands.{certificate_of}
 use Rattle.cophy_core.proofs.Works.{whole_stops, scanning_stops}
 use Rattle.cophy_core.proofs.commands.inputs_of.Goals as goal
 

@@ -1,6 +1,7 @@
-use Rattle.std.proofs.Common.{◌≡◌, List, Ok, subst, sym, ◌∙◌}
+use Rattle.std.proofs.Common.{◌≡◌, List, ℕ, Ok, subst, sym, ◌∙◌}
 use Rattle.std.proofs.lemmas.Result.{err_from_is_err_and}
 use Rattle.adv_base.specs.Settings.{the_setting}
+use Rattle.adv_base.specs.declared.catalogue.Catalogue.{Catalogue}
 use Rattle.adv_base.specs.declared.workload.Statement.{Statement}
 use Rattle.binder.specs.Plain.{plain_statements}
 use Rattle.binder.specs.Statements.{statements_of}
@@ -8,13 +9,21 @@ use Rattle.binder.specs.declared.fault.BindFault.TheVariants as bind
 use Rattle.candidates.specs.Growing.{IsProposed}
 use Rattle.programme_parts.specs.Combinations.{AreFew, IsFirstBeyond}
 use Rattle.report.specs.declared.done.Refusal.TheVariants.{Sql, Bind}
+use Rattle.sql_reader.specs.Workload.{IsWorkload}
+use Rattle.sql_reader.specs.declared.parsed.ParsedStatement.{ParsedStatement}
 use Rattle.sql_reader.specs.declared.parsed.SqlFault.TheVariants as sql
 use Rattle.cophy_core.specs.Settings.{AreStatementsOf}
 use Rattle.cophy_core.specs.Stops.{LacksProgramme}
 use Rattle.cophy_core.proofs.OneSetting.{one_list}
 use Rattle.cophy_core.proofs.Stopped.{stops_at}
 use Rattle.cophy_core.proofs.Taking.{no_fault}
-use Rattle.cophy_core.proofs.commands.retune_workload.session_of.Goals as goal
+use Rattle.cophy_core.proofs.commands.session.session_of.Goals as goal
+
+-- what is read once more is what was read before
+again : (cat : Catalogue) (load text : List ℕ) (parsed : List ParsedStatement) (found statements : List Statement) → IsWorkload load parsed → text ≡ load →
+    statements_of cat text parsed ≡ Ok (plain_statements found) → AreStatementsOf cat load statements → found ≡ statements
+again cat load text parsed found statements is same bound read =
+    one_list cat load found statements (record { parsed = parsed; is_workload = is; bound = rw (sym same) bound }) read
 
 -- the text was read before, so that memory alone can be wanting
 pub returns-in_err-parsed-clause-stop : goal.returns-in_err-parsed-clause-stop
@@ -33,39 +42,25 @@ returns-in_err-statements-clause-stop c =
 
 pub over-requires-clause-proposed : goal.over-requires-clause-proposed
 over-requires-clause-proposed c =
-    let mine : AreStatementsOf c.args.setting.now.cat.now c.args.load.now c.in_ok-statements.statements = record {
-      parsed = c.in_ok-parsed.parsed.statements;
-      is_workload = c.in_ok-parsed.ensures.found;
-      bound = rw (sym c.in_ok-parsed.ensures.same_text) c.in_ok-statements.ensures.exact;
-    } in
-    subst (λ (xs : List Statement). IsProposed c.args.setting.now.cat.now xs c.args.proposed)
-    (sym (one_list c.args.setting.now.cat.now c.args.load.now c.in_ok-statements.statements c.args.setting.now.statements.now mine c.requires.read)) c.requires.proposed
+    let same = again c.args.setting.now.cat.now c.args.load.now c.in_ok-parsed.parsed.text.now c.in_ok-parsed.parsed.statements c.in_ok-statements.statements
+    c.args.setting.now.statements.now c.in_ok-parsed.ensures.found c.in_ok-parsed.ensures.same_text c.in_ok-statements.ensures.exact c.requires.read in
+    subst (λ (xs : List Statement). IsProposed c.args.setting.now.cat.now xs c.args.proposed) (sym same) c.requires.proposed
 
 pub returns-in-Ok-clause-statements : goal.returns-in-Ok-clause-statements
 returns-in-Ok-clause-statements c =
-    let mine : AreStatementsOf c.args.setting.now.cat.now c.args.load.now c.in_ok-statements.statements = record {
-      parsed = c.in_ok-parsed.parsed.statements;
-      is_workload = c.in_ok-parsed.ensures.found;
-      bound = rw (sym c.in_ok-parsed.ensures.same_text) c.in_ok-statements.ensures.exact;
-    } in
-    c.in-Ok.ensures.statements ∙ one_list c.args.setting.now.cat.now c.args.load.now c.in_ok-statements.statements c.args.setting.now.statements.now mine c.requires.read
+    c.in-Ok.ensures.statements ∙ again c.args.setting.now.cat.now c.args.load.now c.in_ok-parsed.parsed.text.now c.in_ok-parsed.parsed.statements c.in_ok-statements.statements
+    c.args.setting.now.statements.now c.in_ok-parsed.ensures.found c.in_ok-parsed.ensures.same_text c.in_ok-statements.ensures.exact c.requires.read
 
 pub returns-in-Ok-clause-few : goal.returns-in-Ok-clause-few
 returns-in-Ok-clause-few c =
-    let mine : AreStatementsOf c.args.setting.now.cat.now c.args.load.now c.in_ok-statements.statements = record {
-      parsed = c.in_ok-parsed.parsed.statements;
-      is_workload = c.in_ok-parsed.ensures.found;
-      bound = rw (sym c.in_ok-parsed.ensures.same_text) c.in_ok-statements.ensures.exact;
-    } in
-    subst (AreFew c.args.setting.now.cat.now) (one_list c.args.setting.now.cat.now c.args.load.now c.in_ok-statements.statements c.args.setting.now.statements.now mine c.requires.read) c.in-Ok.ensures.few
+    let same = again c.args.setting.now.cat.now c.args.load.now c.in_ok-parsed.parsed.text.now c.in_ok-parsed.parsed.statements c.in_ok-statements.statements
+    c.args.setting.now.statements.now c.in_ok-parsed.ensures.found c.in_ok-parsed.ensures.same_text c.in_ok-statements.ensures.exact c.requires.read in
+    subst (AreFew c.args.setting.now.cat.now) same c.in-Ok.ensures.few
 
 pub returns-in-Err-TooManyCombinations-clause-stop : goal.returns-in-Err-TooManyCombinations-clause-stop
 returns-in-Err-TooManyCombinations-clause-stop c =
     let arm = c.in-Err-TooManyCombinations in
-    let mine : AreStatementsOf c.args.setting.now.cat.now c.args.load.now c.in_ok-statements.statements = record {
-      parsed = c.in_ok-parsed.parsed.statements;
-      is_workload = c.in_ok-parsed.ensures.found;
-      bound = rw (sym c.in_ok-parsed.ensures.same_text) c.in_ok-statements.ensures.exact;
-    } in
+    let same = again c.args.setting.now.cat.now c.args.load.now c.in_ok-parsed.parsed.text.now c.in_ok-parsed.parsed.statements c.in_ok-statements.statements
+    c.args.setting.now.statements.now c.in_ok-parsed.ensures.found c.in_ok-parsed.ensures.same_text c.in_ok-statements.ensures.exact c.requires.read in
     let beyond : IsFirstBeyond c.args.setting.now.cat.now c.in_ok-statements.statements arm.number arm.count = rw arm.field-0-is at arm.ensures.fault in
-    subst (λ (xs : List Statement). IsFirstBeyond c.args.setting.now.cat.now xs arm.number arm.count) (one_list c.args.setting.now.cat.now c.args.load.now c.in_ok-statements.statements c.args.setting.now.statements.now mine c.requires.read) beyond
+    subst (λ (xs : List Statement). IsFirstBeyond c.args.setting.now.cat.now xs arm.number arm.count) same beyond
