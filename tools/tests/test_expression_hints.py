@@ -321,9 +321,11 @@ class Made(OverOwn):
     JOIN pg_class c ON c.oid = i.indexrelid JOIN pg_namespace n ON n.oid = c.relnamespace
     WHERE n.nspname = 'public' ORDER BY 1"""
 
-    def script(self, *also: str) -> str:
+    def script(self, *also: str, more: str = "") -> str:
         files = self.in_folder("c.toml", "l.sql", "q.sql")
-        (self.folder / "q.sql").write_text("SELECT note FROM parted; SELECT id FROM parent; SELECT c FROM plain;")
+        (self.folder / "q.sql").write_text(
+            f"SELECT note FROM parted; SELECT id FROM parent; SELECT c FROM plain; {more}"
+        )
         self.call("export", *files[:2], "--sql", files[2])
         words = [word for it in also for word in ("--also", it)]
         return self.call("ddl", files[0], self.lay_advice(()), "--script", *words).stdout
@@ -337,12 +339,30 @@ class Made(OverOwn):
         made = self.made()
         self.assertEqual(len(made), 2 + 3 + 2, made)
         self.assertFalse([it for it in made if it.endswith("INVALID")])
-        self.assertEqual(self.run_script(text).count("it is there already"), 4)
+        self.assertEqual(self.run_script(text).count("it is there already"), 5)
         spoil = "UPDATE pg_index SET indisvalid = false WHERE indexrelid = '{}'::regclass;"
         broken = ('"plain_lower_Name_idx"', "plain_upper_order_idx")
         self.server.psql("".join(map(spoil.format, broken)), self.database)
         self.assertEqual(self.run_script(text).count("an earlier run left it INVALID"), 2)
         self.assertEqual(self.made(), made)
+        self.run_script(text, "-v", "undo=1")
+        self.assertEqual(self.made(), [])
+
+    def test_two_of_a_partitioned_table_are_made_and_a_new_partition_needs_no_more(self) -> None:
+        table = """CREATE TABLE customer_user_log (kind int, note text, name text) PARTITION BY LIST (kind);
+        CREATE TABLE log_1 PARTITION OF customer_user_log FOR VALUES IN (1)"""
+        self.server.psql(table, self.database)
+        self.addCleanup(self.server.psql, "DROP TABLE customer_user_log", self.database)
+        both = [f"customer_user_log(lower({it}))" for it in ("note", "name")]
+        text = self.script(*both, more="SELECT note FROM customer_user_log;")
+        self.run_script(text)
+        self.assertEqual(len(self.made()), 4, self.made())
+        new = "CREATE TABLE log_2 PARTITION OF customer_user_log FOR VALUES IN (2)"
+        self.server.psql(new, self.database)
+        self.assertEqual(self.run_script(text).count("it is there already"), 2)
+        made = self.made()
+        self.assertEqual(len(made), 6, made)
+        self.assertFalse([it for it in made if it.endswith("INVALID") or len(it) > 63])
         self.run_script(text, "-v", "undo=1")
         self.assertEqual(self.made(), [])
 

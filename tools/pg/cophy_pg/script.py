@@ -180,16 +180,18 @@ def _is_laid(laid: Laid) -> str:
 def _make_parts(table: Table, made: Made) -> list[str]:
     state, mark = _state(made.indexes[0]), _mark(made.indexes[0])
     lines = ["SET lock_timeout TO :'patient';", state, *_refuse_other(made)]
+    # Once it is valid, PostgreSQL itself makes those of new partitions, by names of its own.
+    lines += ["\\if :is_there", "    \\echo 'it is there already'", "\\else"]
     lines += [_step(table, made, 0), _step(table, made, 1)]
     lines += [
         "SET lock_timeout TO :'brief';",
         _step(table, made, 2),
-        *["\\if :is_there", "\\elif :is_invalid", "\\else", f"    {mark}", "\\endif"],
+        *["\\if :is_invalid", "\\else", f"    {mark}", "\\endif"],
         "SET lock_timeout TO :'patient';",
         _step(table, made, 3),
     ]
     lines += ["SET lock_timeout TO :'brief';", _step(table, made, 4), state, "\\if :is_there", "\\else"]
-    return [*lines, f"    {_fail(made, 'is not valid yet: run the script again, or with -v undo=1')}", "\\endif"]
+    return [*lines, f"    {_fail(made, 'is not valid yet: run the script again, or with -v undo=1')}", *["\\endif"] * 2]
 
 
 def _stand(made: Made, laid: Laid) -> list[str]:
