@@ -4,6 +4,7 @@ from __future__ import annotations
 import json
 import re
 import shlex
+import subprocess
 import unittest
 from collections import Counter
 from html import unescape
@@ -13,6 +14,8 @@ from unittest import mock
 from advised import HAS_JINJA, SCHEMA
 from cophy_text.answers import Advice
 from fixtures import NO_HYPOPG, NO_PARSER, STAND_IN, OverOwn
+from patience import LONG, until
+from private_server import program
 from schema_check import faults
 
 if not NO_PARSER:
@@ -381,6 +384,48 @@ class Made(OverOwn):
                 self.run_script(text, "-v", "undo=1")
                 self.assertEqual(self.made(), ["plain_lower_c_idx"])
                 self.server.psql("DROP INDEX plain_lower_c_idx", self.database)
+
+    def test_one_that_was_to_be_unique_or_is_partial_is_left_alone(self) -> None:
+        text = self.script("plain(lower(c))")
+        for kind, end in (("UNIQUE", ""), ("", "WHERE c = 'c'")):
+            with self.subTest(kind=kind, end=end):
+                other = f"CREATE {kind} INDEX CONCURRENTLY plain_lower_c_idx ON plain (pg_catalog.lower(c)) {end}"
+                self.server.psql(other, self.database, check=False)
+                made = self.made()
+                self.assertEqual(len(made), 1)
+                self.assertIn("its name is taken by another", self.run_script(text, status=3))
+                self.run_script(text, "-v", "undo=1")
+                self.assertEqual(self.made(), made)
+                self.server.psql("DROP INDEX plain_lower_c_idx", self.database)
+
+    def test_one_that_another_session_is_making_is_left_alone(self) -> None:
+        text = self.script("plain(lower(c))")
+        words = [
+            str(program("psql")),
+            "-X",
+            "-c",
+            "CREATE INDEX CONCURRENTLY plain_lower_c_idx ON plain (lower(c::text))",
+        ]
+        waits = "SELECT count(*) FROM pg_stat_progress_create_index WHERE index_relid <> 0"
+        with self.held("UPDATE plain SET c = c WHERE c = 'c'"):
+            given = self.server.environment(self.database)
+            other = subprocess.Popen(words, stdout=subprocess.DEVNULL, stderr=subprocess.DEVNULL, env=given)
+            until(lambda: self.server.value(waits, self.database) == "1", "another session makes the index")
+            self.assertIn("its name is taken by another", self.run_script(text, status=3))
+            self.run_script(text, "-v", "undo=1")
+        self.assertEqual(other.wait(LONG), 0)
+        self.assertEqual(self.made(), ["plain_lower_c_idx"])
+        self.server.psql("DROP INDEX plain_lower_c_idx", self.database)
+
+    def test_a_column_that_is_named_as_a_cast_is_known_again(self) -> None:
+        self.server.psql('CREATE TABLE cast_to ("x::text)y" text, "z::text)" varchar)', self.database)
+        self.addCleanup(self.server.psql, "DROP TABLE cast_to", self.database)
+        both = ("cast_to(lower(x__text_y))", "cast_to(lower(z__text_))")
+        text = self.script(*both, more="SELECT 1 FROM cast_to;")
+        self.run_script(text)
+        self.assertEqual(self.run_script(text).count("it is there already"), 2)
+        self.run_script(text, "-v", "undo=1")
+        self.assertEqual(self.made(), [])
 
     def test_other_words_are_refused(self) -> None:
         for word in ("plain(c)", "plain(trim(c))", "plain(lower(c)), x(lower(c))"):

@@ -9,15 +9,18 @@ _STATE = """SELECT count(*) FILTER (WHERE NOT is_it) > 0 AS is_other, count(*) F
     count(*) FILTER (WHERE is_it AND NOT is_valid) > 0 AS is_invalid,
     count(*) FILTER (WHERE is_it AND (NOT is_valid OR mark = :'mark')) > 0 AS is_own
 FROM (
-    SELECT i.indisvalid AND i.indisready AS is_valid, obj_description(c.oid, 'pg_class') AS mark, coalesce(m.nspname = $1 AND t.relname = $3 AND $4 = ARRAY(
-        SELECT coalesce(a.attname::text,replace(pg_get_indexdef(c.oid,k.at::int4,true),'::text)',')'))
+    SELECT i.indisvalid AND i.indisready AS is_valid, obj_description(c.oid, 'pg_class') AS mark,
+        coalesce((m.nspname,t.relname)=($1,$3) AND i.indisvalid>=i.indisunique AND i.indpred IS NULL
+        AND 0=(SELECT count(*) FROM pg_stat_progress_create_index WHERE index_relid=c.oid) AND $4=ARRAY(
+        SELECT coalesce(a.attname::text,regexp_replace(pg_get_indexdef(c.oid,k.at::int4,true),'::text[)]$',')'))
         FROM unnest(i.indkey::int2[]) WITH ORDINALITY k(number, at)
         LEFT JOIN pg_attribute a ON a.attrelid = i.indrelid AND a.attnum = k.number ORDER BY k.at), false) AS is_it
     FROM pg_class c JOIN pg_namespace n ON n.oid = c.relnamespace LEFT JOIN pg_index i ON i.indexrelid = c.oid
     LEFT JOIN pg_class t ON t.oid = i.indrelid LEFT JOIN pg_namespace m ON m.oid = t.relnamespace
-    WHERE n.nspname = $1 AND c.relname = $2) found"""
+    WHERE (n.nspname,c.relname)=($1,$2)) found"""
 """Whether an index is there, and as what: its schema, its name, its table and its columns, or its function of one,
-which PostgreSQL shows with a cast to text, are the parameters."""
+which PostgreSQL shows with a cast to text, are the parameters. A partial one is another, and so
+is what another session is making, and one that was to be unique and is INVALID, which no script leaves."""
 BEGIN = f"""\\set QUIET on
 \\set ON_ERROR_STOP on
 \\set AUTOCOMMIT on
