@@ -52,6 +52,10 @@ class Purpose(unittest.TestCase):
         self.assertEqual(self.shown("no SQL FROM nowhere", "ticket(tn)"), "no SQL FROM nowhere")
         self.assertEqual(self.shown(f"{LONG} WHERE tn = $1", "ticket(tn)", 10), "WHERE t...")
 
+    def test_a_long_statement_takes_no_time(self) -> None:
+        deep = f"{LONG} WHERE {'(tn = 1 AND (id = 2 OR ' * 1900}tn = 3{'))' * 1900}"
+        self.assertEqual(self.shown(deep, "ticket(tn)", 30), "FROM ticket t WHERE (tn = 1...")
+
 
 if __name__ == "__main__":
     unittest.main()

@@ -17,14 +17,18 @@ from cophy_pg.rewrite.parse import parsed
 
 _FROM = re.compile(r"\bFROM\b", re.IGNORECASE)
 CLAUSES = {"sortClause": "ORDER BY", "groupClause": "GROUP BY"}
+MOST_PARSED = 5_000
+"""A statement of more characters isn't parsed, since deep ones take time by the square of their length."""
 
 
 def purpose_of(sql: str, table: str, columns: Iterable[str], most: int) -> str:
     """Of a statement the conditions with a column of an index, behind WHERE wherever they stand; or else what it
-    orders or groups by with one; or else what begins with its first FROM; all of it where it has none or can't be
-    parsed. The names of table and columns are those of the catalogue; one may stand within a function."""
+    orders or groups by with one; or else, and where it is long, what begins with its first FROM; all of it where it
+    has none or can't be parsed. The names of table and columns are those of the catalogue; one may stand within a
+    function."""
+    named = {it for shown in columns for it in re.findall(r"\w+", shown.lower())}
     try:
-        served = _served(parsed(sql), table, {it for shown in columns for it in re.findall(r"\w+", shown.lower())})
+        served = _served(parsed(sql), table, named) if len(sql) <= MOST_PARSED else ""
     except (ParseError, RecursionError, ValueError, NotImplementedError):
         return short(sql, most)
     found = _FROM.search(sql)

@@ -96,7 +96,7 @@ PARTS = f"""PREPARE cophy_parts (int, text, text, text, text) AS {OWN}
 WITH tree AS (
     SELECT p.relid, p.parentrelid, p.level, n.nspname, c.relname, c.relkind, c.relnamespace, CASE WHEN p.level = 0 THEN $4
         ELSE CASE WHEN octet_length(c.relname::text) = length(c.relname) THEN left(c.relname, 24) ELSE 'part' END
-            || '_' || left($4, 20) || '_' || left(encode(sha256($4::bytea), 'hex'), 6) || '_' || c.oid::text END AS index
+            || '_' || left($4, 20) || '_' || left(encode(sha256(convert_to($4, 'UTF8')), 'hex'), 6) || '_' || c.oid::text END AS index
     FROM pg_partition_tree((SELECT t.oid FROM pg_class t JOIN pg_namespace s ON s.oid = t.relnamespace
         WHERE s.nspname = $2 AND t.relname = $3)) p
     JOIN pg_class c ON c.oid = p.relid JOIN pg_namespace n ON n.oid = c.relnamespace WHERE c.relkind IN ('r', 'p')
