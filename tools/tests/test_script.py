@@ -172,6 +172,17 @@ class Script(OverOwn):
         self.run_script(text, "-v", "undo=1")
         self.assertEqual(self.names(), [])
 
+    def test_what_isnt_recommended_isnt_made_where_others_are_left_out(self) -> None:
+        text = self.script(("plain(a)", "plain(b)", "plain(a, b)"), "--unadvised", "3")
+        for words, made in (
+            (("without=1",), ["plain_b_idx"]),
+            (("without=2", "all=1"), ["plain_a_b_idx", "plain_a_idx", "plain_b_idx"]),
+        ):
+            self.run_script(text, *(word for it in words for word in ("-v", it)))
+            self.assertEqual(self.names(), made)
+        self.run_script(text, "-v", "undo=1")
+        self.assertEqual(self.names(), [])
+
     def test_what_an_earlier_run_left_is_made_again(self) -> None:
         text = self.script(("plain(a, b)", "parted(kind)"))
         self.run_script(text)

@@ -45,19 +45,15 @@ class Verdict(OverDocument):
         self.document["statements"][0]["sql"] = "SELECT a, b FROM t0, t1 WHERE t1.b > 5 AND t0.a = 3"
         for it, planned in zip(self.document["picks"], (10.0, 1.0, 0.9, 0.04, 0.06), strict=True):
             it["saves"] = {"ours": 9.0, "server": 2.0, "measured": planned, "planned": planned}
-        for it, ours in zip(self.document["picks"][2:], (2.0, 2.44, 0.0), strict=True):
-            it["saves"] |= {"ours": ours, "server": 0.5}
         lines = self.verdict()
         at = next(at for at, it in enumerate(lines) if it.startswith(" 1."))
         wanted = [
             " 1.    0.2   10.0 %  t0(a)     WHERE a = 3",
             " 2.    0.2    1.0 %  t1(a, b)  WHERE b > 5",
-            "3-5.   0.5    1.0 %  3 indexes that save less than 1 % each: --min-saving 2.5 leaves them out",
+            "3-5.   0.5    1.0 %  3 indexes that save less than 1 % each: psql -v without=3,4,5 leaves them out",
             "",
         ]
         self.assertEqual(lines[at : at + 4], wanted)
-        self.document["picks"][1]["saves"] |= {"ours": 1.0, "server": 1.0}
-        self.assertTrue(self.verdict()[at + 2].endswith(" leaves them out, and 1 more"))
         # One alone has a row of its own.
         del self.document["picks"][3:]
         self.assertTrue(self.verdict()[at + 2].startswith(" 3.    0.2    0.9 %  t2(a, b, c)  FROM t0"))
@@ -166,7 +162,7 @@ class Verdict(OverDocument):
         self.assertEqual((rows, lines[at - 1]), ([(" 1.", "t0"), (" 2.", "t2"), (" 3.", "t4")], ""))
         self.assertNotIn("it saves 0.4 %", text)
         for line in (
-            'then superfluous, so may be dropped once these are in use: "public"."old"',
+            'may be dropped once these are in use: "public"."old" beside 1',
             "warning: statements that ran once have 33.3 % of the cost: --min-calls 2 leaves them out",
             "warning: x",
             "all else: /home/you/advice/details.txt",

@@ -34,12 +34,13 @@ SET client_min_messages TO warning;
 SET cophy.fault TO '';
 SELECT :{{?undo}} AS is_undo \\gset
 \\if :{{?without}}
-\\elif :{{?all}}
-    \\set without ''
-\\elif :is_undo
-    \\set without ''
 \\else
-    \\set without 'UNADVISED'
+    \\set without ''
+\\endif
+\\if :{{?all}}
+\\elif :is_undo
+\\else
+    \\set without :without ',UNADVISED'
 \\endif
 -- What is made here is marked, so that nothing else is dropped.
 \\set mark 'MARK'

@@ -1,7 +1,6 @@
 """What `advise` prints: a verdict, the indexes, and the one command that makes them. All else is counted."""
 from __future__ import annotations
 
-import math
 from typing import Any
 
 from cophy_text import files
@@ -24,7 +23,7 @@ from cophy_pg.folder import Folder
 from cophy_pg.guesses import is_judged, saved_of, seconds_of
 from cophy_pg.hints import ALONE, hints_shown
 from cophy_pg.overview import headline, measured, much_skipped, named, part_of, purpose, time_of, unhelped, user_of
-from cophy_pg.recommended import KINDS, LITTLE
+from cophy_pg.recommended import LITTLE
 from cophy_pg.searches import CUT
 from cophy_pg.speed import duration
 from cophy_pg.writes import told
@@ -112,7 +111,7 @@ def _rows(advised: list[Row], document: dict[str, Any]) -> list[str]:
     wide = max((len(named(it)) for _, it in shown if len(named(it)) <= LONGEST), default=0)
     lines = {at: _row(at, it, wide, document) for at, it in shown}
     if little[1:]:
-        lines[little[0][0]] = _together(little, [it for _, it in shown if not is_hint(it)])
+        lines[little[0][0]] = _together(little)
     return [lines[at] for at in sorted(lines)]
 
 
@@ -125,17 +124,12 @@ def _row(at: int, pick: dict[str, Any], wide: int, document: dict[str, Any]) -> 
     return f"{begin} {mark}{percent(saved_of(pick)):>7}  {named(pick):<{wide}}{sql}".rstrip()
 
 
-def _together(little: list[Row], others: list[dict[str, Any]]) -> str:
-    """Picks that save little with what they take and save together, and the option that leaves them out."""
-
-    def most(pick: dict[str, Any]) -> float:
-        return max(pick["saves"].get(it) or 0.0 for it in KINDS)
-
-    option = math.floor(10 * max(most(it) for _, it in little) + 1) / 10
-    more = sum(most(it) < option for it in others)
+def _together(little: list[Row]) -> str:
+    """Picks that save little with what they take and save together, and how the script passes over them."""
     begin = _begin(f"{little[0][0]}-{little[-1][0]}.", sum(it["stored_pages"] for _, it in little))
-    what = f"{len(little)} indexes that save less than {LITTLE} % each: --min-saving {option:g} leaves them out"
-    return f"{begin}  {percent(sum(saved_of(it) for _, it in little)):>7}  {what}" + f", and {more} more" * (more > 0)
+    what = f"{len(little)} indexes that save less than {LITTLE} % each"
+    passed = f"psql -v without={','.join(str(at) for at, _ in little)} leaves them out"
+    return f"{begin}  {percent(sum(saved_of(it) for _, it in little)):>7}  {what}: {passed}"
 
 
 def _begin(number: str, pages: int) -> str:
@@ -161,9 +155,14 @@ def _unadvised(document: dict[str, Any]) -> list[str]:
 def _rest(document: dict[str, Any], kept: Folder) -> list[str]:
     """What changes the advice, and how much there is to read beside it."""
     lines = []
-    made = [it for _, it in rows_of(document) if not it.get("caveat")] or document["picks"]
-    if names := [*dict.fromkeys(name for it in made for name in it.get("superfluous", []))]:
-        lines += [f"then superfluous, so may be dropped once these are in use: {', '.join(names)}"]
+    made = [it for it in rows_of(document) if not it[1].get("caveat")] or rows_of(document)
+    beside: dict[str, list[int]] = {}
+    for at, it in made:
+        for name in it.get("superfluous", []):
+            beside.setdefault(name, []).append(at)
+    if beside:
+        found = (f"{name} beside {', '.join(map(str, places))}" for name, places in beside.items())
+        lines += [f"may be dropped once these are in use: {'; '.join(found)}"]
     lines += told(document.get("writes", []))
     lines += [*hints_shown(document), *unhelped(document)]
     if rows_of(document) and not _is_well_judged(document):
