@@ -38,6 +38,7 @@ class Purpose(unittest.TestCase):
     def test_a_column_of_that_name_in_another_table_doesnt_count(self) -> None:
         sql = f"{LONG} JOIN queue q ON q.id = t.queue_id WHERE q.title = $1 AND t.title = $2"
         self.assertEqual(self.shown(sql, "ticket(title)"), "WHERE title = $2")
+        self.assertEqual(self.shown("SELECT 1 FROM rows o WHERE o.a = 1", "arrows(a)"), "FROM rows o WHERE o.a = 1")
         # The catalogue may have the schema before a name, and `_` for odd characters.
         self.assertEqual(self.shown('SELECT 1 FROM s."T-x" WHERE "a b" = 3', "s_T_x(a_b)"), 'WHERE "a b" = 3')
 

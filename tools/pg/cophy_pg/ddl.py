@@ -7,7 +7,7 @@ from dataclasses import dataclass
 from cophy_text import files
 from cophy_text.answers import Advice, Candidate, NoAnswer, read_advice, read_retuned
 from cophy_pg.included import key_count
-from cophy_pg.schema import Schema, Table
+from cophy_pg.schema import Schema, Table, plain_name
 
 LONGEST = 63
 _PLAIN = re.compile(r"[ -~]*\Z")
@@ -196,7 +196,7 @@ def create(schema: Schema, pick: Candidate, taken: set[str]) -> Made:
     for child in table.children:
         known = schema.tables.get(child)
         if known is None or function or not any(it.keys == columns for it in known.indexes):
-            stem = known.shown if known is not None else re.sub(r"[^A-Za-z0-9_]", "_", child[1])
+            stem = known.shown if known is not None else plain_name(child[1])
             indexes.append(Named(_free(f"{stem}_{end}", taken), child, columns, count, True, function))
     return Made(pick, tuple(indexes), laid=Laid(where, name) if pick.is_clustered else None)
 

@@ -14,6 +14,7 @@ from cophy_text.shown import short
 from cophy_pg.expression_hints import joined
 from cophy_pg.rewrite.expressions import nodes_of
 from cophy_pg.rewrite.parse import parsed
+from cophy_pg.schema import plain_name
 
 _FROM = re.compile(r"\bFROM\b", re.IGNORECASE)
 CLAUSES = {"sortClause": "ORDER BY", "groupClause": "GROUP BY"}
@@ -63,7 +64,8 @@ def _visible(node: Any) -> str:
 
 def _is_of(node: Any, table: str) -> bool:
     """Whether a name is that of a table of the catalogue, which may have its schema before it."""
-    return table.lower().endswith(_cleaned(node.relname))
+    name = plain_name(node.relname).lower()
+    return table.lower() == name or table.lower().endswith(f"_{name}")
 
 
 def _is_in(node: Any, names: set[str], columns: set[str]) -> bool:
@@ -71,12 +73,7 @@ def _is_in(node: Any, names: set[str], columns: set[str]) -> bool:
     if not isinstance(node, ast.ColumnRef) or not isinstance(node.fields[-1], ast.String):
         return False
     *before, column = (str(it.sval) for it in node.fields)
-    return _cleaned(column) in columns and (not before or before[-1].lower() in names)
-
-
-def _cleaned(name: str) -> str:
-    """A name as the catalogue has it."""
-    return re.sub(r"[^a-z0-9_]", "_", name.lower())
+    return plain_name(column).lower() in columns and (not before or before[-1].lower() in names)
 
 
 def _written(node: Any, is_one_of_many: bool = False) -> str:

@@ -160,11 +160,14 @@ def quoted(name: str) -> str:
     return f'"{name}"' if name.upper() in RESERVED or not _NAME.match(name) else name
 
 
+def plain_name(name: str) -> str:
+    """A name of PostgreSQL in characters that a catalogue has."""
+    return re.sub(r"[^A-Za-z0-9_]", "_", name)
+
+
 def cleaned(name: str, taken: set[str], prefix: str = "") -> str:
     """A name that a catalogue may have and that isn't taken, as near to the given one as can be; it is taken then."""
-    plain = re.sub(r"[^A-Za-z0-9_]", "_", name)
-    if prefix:
-        plain = re.sub(r"[^A-Za-z0-9_]", "_", prefix) + "_" + plain
+    plain = plain_name(f"{prefix}_{name}" if prefix else name)
     if not plain or plain[0].isdigit():
         plain = "_" + plain
     found, number = plain[:LONGEST_NAME], 1
