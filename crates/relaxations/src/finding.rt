@@ -1,9 +1,10 @@
 //! The search for the cheapest configuration: best bound first, over linear relaxations, with fixings and roundings.
 
+use crate::branching::{RULES, Rule};
 use crate::clashing::{GroupShares, leave_out_clashing, pages, sides};
 use crate::configuration::{Chosen, Incumbent};
 use crate::rounding::{Rounding, Shared, view_node};
-use crate::tree::{MOST_NODES, Tree};
+use crate::tree::Tree;
 use adv_base::NoMemory;
 use bip_model::{Fix, State};
 use interior_point::{Lagrangian, Losses, Matrix, Places, Relaxation, View, at, float_of, put};
@@ -17,10 +18,6 @@ const MOST_PASSES: u32 = 4;
 const MANY_FIXED: usize = 3;
 /// A candidate whose share is nearer to a whole number than this is branched on last.
 const LEAST_PART: f64 = 1e-4;
-/// A rise on both sides of a branch on a candidate of a group is worth so many times its pages in doubt.
-const WORTH: f64 = 24.0;
-/// The least price of a page by which what rises is told in pages.
-const LEAST_PAGE: f64 = 1e-12;
 /// So often at first, and then once in so many times, the search goes on to a side of the branch that it made.
 const FIRST_DIVES: u32 = 3;
 
@@ -49,6 +46,7 @@ pub(crate) struct Finder {
     own_rents: Vec<f64>,
     shares: [f64; 256],
     root_bound: f64,
+    rule: Rule,
 }
 
 impl Finder {
@@ -69,6 +67,7 @@ impl Finder {
             },
             shares: [0.0; 256],
             root_bound: 0.0,
+            rule: RULES[0],
         })
     }
 
@@ -203,14 +202,13 @@ impl Finder {
         found
     }
 
-    /// What a branch on a candidate of a group promises, of which a relaxation takes more than one, in pages, by what the value
-    /// rises by on both sides.
+    /// What a branch on a candidate of a group promises, of which a relaxation takes more than one, in pages.
     fn promise(&self, shares: &GroupShares, group: u8, number: usize) -> f64 {
         let rises = self.losses.best_rises(&self.view, &self.lagrangian, number);
         let inside = shares.inside(group, rises.inside.max(0.0), rises.outside);
         let missing = (self.target() - self.lagrangian.value).max(1.0);
-        let rise = inside.min(rises.outside).min(missing);
-        WORTH * rise.max(0.0) / self.lagrangian.page.max(LEAST_PAGE)
+        self.rule
+            .pages(inside, rises.outside, missing, self.lagrangian.page)
     }
 
     /// The candidate of the view, by its number there, on which to branch: the one with the most pages in doubt.
@@ -316,27 +314,38 @@ impl Finder {
         self.rounding.exchange(matrix, fix, budget, &mut self.best)
     }
 
-    /// Searches for the cheapest configuration from where it was begun. Where the root's relaxation can't be solved, its rounding
-    /// is taken.
-    pub(crate) fn find(&mut self, matrix: &Matrix, budget: i64) {
+    /// Searches for the cheapest configuration from where it was begun, with so many visits; whether it comes to its end. Where
+    /// the root's relaxation can't be solved, its rounding is taken.
+    pub(crate) fn find(
+        &mut self,
+        matrix: &Matrix,
+        budget: i64,
+        rule: &Rule,
+        visits: usize,
+    ) -> bool {
+        self.rule = *rule;
         let mut dive = None;
         let mut turns = 0u32;
-        for _visit in 0..MOST_NODES {
+        let mut is_whole = false;
+        for _visit in 0..visits {
             let next = match dive {
                 Some(place) => Some(place),
                 None => self.tree.least(),
             };
             let Some(place) = next else {
+                is_whole = true;
                 break;
             };
             if dive.is_none() {
                 turns = turns.wrapping_add(1);
             }
-            if self.tree.bound(place) >= self.target() || self.tree.is_full() {
+            is_whole = self.tree.bound(place) >= self.target() || self.tree.is_full();
+            if is_whole {
                 break;
             }
             let side = self.visit(matrix, budget, place);
             if self.root_bound == f64::NEG_INFINITY {
+                is_whole = true;
                 break;
             }
             let is_dive = turns <= FIRST_DIVES || turns % LATER_DIVES == 0;
@@ -344,5 +353,6 @@ impl Finder {
         }
         let target = self.target();
         self.tree.close(target);
+        is_whole
     }
 }

@@ -8,6 +8,7 @@
 mod again;
 mod along_tree;
 mod attempts;
+mod branching;
 mod clashing;
 mod configuration;
 mod deepening;

@@ -3,12 +3,14 @@ ghost use Rattle.std.specs.Prelude.{◌≡◌, ◌≤◌, All, length};
 ghost use Rattle.adv_base.specs.declared.limits.TheConstants.{MOST_RENT};
 ghost use Rattle.bip_model.specs.Views.{AreMultipliers};
 
+use crate::branching::RULES;
 use crate::clashing::{groups_of, leave_out_clashing};
 use crate::configuration::Chosen;
 use crate::entering::matrix_of;
 use crate::finding::Finder;
 use crate::planner::{MOST_SETS, OVERFULL, PlanNode, Planner, Task};
 use crate::splitting::Splitter;
+use crate::tree::MOST_NODES;
 use adv_base::limits::{MOST_PAGE_PRICE, MOST_RENT};
 use adv_base::{Config, IndexShape, NoMemory};
 use bip_model::{Fix, Multipliers, Programme, State};
@@ -51,6 +53,8 @@ pub struct Proposals {
     waiting: Vec<(usize, usize)>,
     root: Fix,
     limits: Limits,
+    /// The rule of the last search.
+    rule: usize,
     /// The configuration that was found last, if there is one.
     pub(crate) known: Option<Chosen>,
     /// How many sets are recalled of elsewhere, zeros among them, and a tree with them.
@@ -85,6 +89,7 @@ impl Proposals {
                 nodes: most,
                 most_sets: 1,
             },
+            rule: 0,
             known: None,
             recalled: 0,
             tree: Vec::with_capacity(alloc, 0)?,
@@ -116,26 +121,55 @@ impl Proposals {
                 self.root.state[a] = State::Out;
             }
         }
-        let mut settled = self.root;
-        let _ = leave_out_clashing(&self.matrix, &mut settled);
-        let known = self.known;
-        self.finder
-            .begin(&self.matrix, &settled, self.limits.budget, known.as_ref());
-        if known.is_none() {
-            self.finder.find(&self.matrix, self.limits.budget);
-        } else if !self.find_again() {
-            self.find_anew(&settled);
+        let is_shown = match self.known {
+            Some(known) => {
+                self.begin(Some(&known));
+                self.find_again()
+            }
+            None => false,
+        };
+        if !is_shown {
+            // As if nothing were known, so that what is found then is never worse for what was known.
+            self.begin(None);
+            self.find_by(0);
         }
         let on = self.finder.best.on;
         self.known = Some(on);
         Config { on }
     }
 
-    /// Finds as if nothing were known, so that what is found then is never worse for what was known.
-    fn find_anew(&mut self, root: &Fix) {
+    /// Begins a search at the root, with a configuration that is known, if one is.
+    fn begin(&mut self, known: Option<&Chosen>) {
+        let mut settled = self.root;
+        let _ = leave_out_clashing(&self.matrix, &mut settled);
         self.finder
-            .begin(&self.matrix, root, self.limits.budget, None);
-        self.finder.find(&self.matrix, self.limits.budget);
+            .begin(&self.matrix, &settled, self.limits.budget, known);
+    }
+
+    /// Searches by a rule from where it was begun, and where that comes to no end by the next ones, from the root each time.
+    fn find_by(&mut self, first: usize) {
+        for number in first..RULES.len() {
+            if number > first {
+                let known = self.finder.best.on;
+                self.begin(Some(&known));
+            }
+            self.rule = number;
+            let rule = RULES[number];
+            let visits = if self.has_groups() {
+                rule.visits
+            } else {
+                MOST_NODES
+            };
+            let budget = self.limits.budget;
+            if self.finder.find(&self.matrix, budget, &rule, visits) {
+                break;
+            }
+        }
+    }
+
+    /// Whether candidates clash.
+    fn has_groups(&self) -> bool {
+        self.matrix.groups.iter().any(|group| *group != 0)
     }
 
     /// Plans from the cheapest configuration that is known on, without a search; whether it is shown that nothing is cheaper.
@@ -170,19 +204,41 @@ impl Proposals {
     /// Makes sets, and with them a plan that is to show that no configuration below the root of `find` is cheaper than a cost.
     pub fn plan(&mut self, cost: u128) {
         let whole = cost.min(MOST_COST) as i128;
-        let task = task_of(&self.matrix, &self.limits);
         if self.planned != Some(whole) {
-            self.planner.aim(self.finder.tree.reach(whole));
-            self.planner.begin(&task, &self.root);
-            if self.planner.has_room(&task) {
-                let _ = self.planner.add_own(&task, &mut self.finder);
+            self.plan_anew(whole);
+            for _turn in 0..RULES.len() {
+                if !self.planner.has_open || !self.may_differ() {
+                    break;
+                }
+                let known = self.finder.best.on;
+                self.begin(Some(&known));
+                self.find_by(self.rule.saturating_add(1));
+                self.plan_anew(whole);
             }
-            self.planner.attempt_all(&task, &mut self.finder);
         }
+        let task = task_of(&self.matrix, &self.limits);
         self.splitter.read(self.planner.plan.as_slice());
         self.splitter.split(&task, &mut self.planner);
         let numbers = self.keep_sets();
         self.write_steps(&numbers);
+    }
+
+    /// Makes sets and a plan along the tree of the last search.
+    fn plan_anew(&mut self, cost: i128) {
+        let task = task_of(&self.matrix, &self.limits);
+        self.planner.aim(self.finder.tree.reach(cost));
+        self.planner.begin(&task, &self.root);
+        if self.planner.has_room(&task) {
+            let _ = self.planner.add_own(&task, &mut self.finder);
+        }
+        self.planner.attempt_all(&task, &mut self.finder);
+    }
+
+    /// Whether a search by another rule may have another tree, for which there are nodes.
+    fn may_differ(&self) -> bool {
+        self.rule.saturating_add(1) < RULES.len()
+            && self.has_groups()
+            && self.finder.tree.nodes.len() <= self.limits.nodes
     }
 
     /// Keeps the sets that leaves name, and answers the number of each. The root's is the first: that is compared with others at
