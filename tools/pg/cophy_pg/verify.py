@@ -15,7 +15,7 @@ from cophy_pg.ddl import advice_of
 from cophy_pg.explain import Explainer, NoStatement, add_names, statement_of
 from cophy_pg.outcomes import ORDINARY, Outcome, Verdict, outcomes, texts_in, unmatched
 from cophy_pg.parameters import Columns
-from cophy_pg.picks import index_names, make, replaceable
+from cophy_pg.picks import home_of, index_names, make, replaceable
 from cophy_pg.program import Program, ProgramFault, add_program
 from cophy_pg.progress import Progress, say, say_once
 from cophy_pg.schema import Schema
@@ -92,20 +92,40 @@ def judge(
 ) -> tuple[list[Outcome], list[str]]:
     """Explains statements with the picks, and without them where that isn't known, and fills their verdicts."""
     with reading(server, "READ COMMITTED"):
-        tables, every = look_up(server, found, is_trusted)
-        functions = functions_of_users(server, every, tables) + replaceable(server)
-        if functions:
-            say_once(f"PostgreSQL may run these functions of users while it plans: {'; '.join(functions)}")
-        explainer = Explainer(server, Columns.read(server, tables))
-        unknown = [it for it in found if it.before is None]
-        for at, it in enumerate(unknown, 1):
-            progress(f"explaining statement {at} of {len(unknown)} without the picks")
-            _explain(explainer, it, {}, False)
+        explainer, functions = _explainer(server, found, is_trusted)
+        _explain_without(explainer, found, progress)
         listed, made = make(server, schema, advice)
         for at, it in enumerate(found, 1):
             progress(f"explaining statement {at} of {len(found)} with the picks")
             _explain(explainer, it, made, True)
     return listed, functions
+
+
+def explain_as_it_is(server: Server, found: list[Verdict], is_trusted: bool, progress: Progress) -> None:
+    """Fills what statements cost without hypothetical indexes, and so with all that are there, as `judge` does without
+    the picks."""
+    with reading(server, "READ COMMITTED"):
+        explainer, _ = _explainer(server, found, is_trusted)
+        # A session behind a pooler may have some of an earlier one.
+        home_of(server)
+        _explain_without(explainer, found, progress)
+
+
+def _explainer(server: Server, found: list[Verdict], is_trusted: bool) -> tuple[Explainer, list[str]]:
+    """What explains statements, and the functions of users that may run then, which are told."""
+    tables, every = look_up(server, found, is_trusted)
+    functions = functions_of_users(server, every, tables) + replaceable(server)
+    if functions:
+        say_once(f"PostgreSQL may run these functions of users while it plans: {'; '.join(functions)}")
+    return Explainer(server, Columns.read(server, tables)), functions
+
+
+def _explain_without(explainer: Explainer, found: list[Verdict], progress: Progress) -> None:
+    """Explains those statements whose cost without the picks isn't known."""
+    unknown = [it for it in found if it.before is None]
+    for at, it in enumerate(unknown, 1):
+        progress(f"explaining statement {at} of {len(unknown)} without the picks")
+        _explain(explainer, it, {}, False)
 
 
 def look_up(server: Server, found: list[Verdict], is_trusted: bool) -> tuple[set[int], Names]:
