@@ -25,14 +25,15 @@ class Verdict(OverDocument):
         self.assertEqual(lines[at - 1], "        MB     time  index, for")
         self.assertRegex(lines[at], r" 1\.    0\.2   10\.0 %  t0\(a\) +FROM t WHERE b = '<script>alert\.\.\.")
         self.assertEqual(
-            lines[-5:-3],
+            lines[-6:-4],
             ["all else: /home/you/advice/details.txt", "make them (about 37 seconds, reads and writes go on):"],
         )
-        self.assertTrue(lines[-3].endswith("-U app -f /home/you/advice/indexes.sql"))
-        self.assertEqual(lines[-2], "or without the password of app, as a role of your own:")
+        self.assertTrue(lines[-4].endswith("-U app -f /home/you/advice/indexes.sql"))
+        self.assertEqual(lines[-3], "or without the password of app, as your own role:")
         where = "-h '/run/db server' -p 5433"
-        self.assertRegex(lines[-1], rf"^sudo -u postgres createuser {where} --role=app \w+ && env ")
-        self.assertRegex(lines[-1], rf" && env -u PGHOST -u PGUSER psql -X {where} -d .* -f /home/")
+        self.assertRegex(lines[-2], rf"^sudo -u postgres createuser {where} --role=app \w+ && env ")
+        self.assertRegex(lines[-2], rf" && env -u PGHOST -u PGUSER psql -X {where} -d .* -f /home/")
+        self.assertEqual(lines[-1], "then, whether it helped: cophy-pg effect /home/you/advice")
         self.assertEqual([it for it in lines if "MB" in it], [lines[0], lines[at - 1]])
         self.document["cost"]["bound"] = 1796000
         self.assertTrue(self.verdict()[2].startswith("Others within the budget save at most 0.1 % of the cost more by"))
@@ -181,8 +182,8 @@ class Verdict(OverDocument):
         lines = self.verdict()
         self.assertTrue(lines[0].startswith("No index is plainly worth making for 'shop & <b>', judged by"), lines)
         self.assertIn("10 aren't recommended (20.0 MB; psql -v all=1 makes them)", lines)
-        self.assertTrue(lines[-3].endswith("-U app -v all=1 -f /home/you/advice/indexes.sql"), lines[-3])
-        self.assertIn(" -v all=1 -f ", lines[-1])
+        self.assertTrue(lines[-4].endswith("-U app -v all=1 -f /home/you/advice/indexes.sql"), lines[-4])
+        self.assertIn(" -v all=1 -f ", lines[-2])
         self.document["picks"] = []
         self.assertTrue(self.verdict()[0].startswith("No index is worth making for"))
 
@@ -244,13 +245,13 @@ class Verdict(OverDocument):
             it["owner"] = "app" if at % 2 else "root"
         self.document["picks"][0]["caveat"] = "it saves 0.4 %"
         self.document |= {"owners": ["root", "app", "none"], "host": "localhost", "port": 5432}
-        self.assertTrue(self.verdict()[-3].endswith(", a line for each owner:"))
+        self.assertTrue(self.verdict()[-4].endswith(", a line for each owner:"))
         place = "-p 5432 -d 'shop & <b>'"
         wanted = [
             f"sudo -u root psql -X {place} -v without=1,3,5 < /home/you/advice/indexes.sql",
             f"psql -X -h localhost {place} -U app -v without=2,4,5 -f /home/you/advice/indexes.sql",
         ]
-        self.assertEqual(self.verdict()[-2:], wanted)
+        self.assertEqual(self.verdict()[-3:-1], wanted)
 
     def test_what_an_unproved_program_answers_is_never_called_proved(self) -> None:
         from cophy_pg.overview import lines_of

@@ -109,7 +109,7 @@ class Run:
         """Takes the steps in turn."""
         files_of_steps = (folder.ADVICE, folder.CERTIFICATE, folder.CHECK, folder.VERIFY, folder.KEPT, folder.DDL)
         self.folder.clear(*files_of_steps, folder.PLANS, folder.SUMMARY, folder.RESULT, folder.REPORT)
-        self.folder.clear(folder.RULES, folder.RULED, folder.CURVE, folder.DETAILS, folder.UNFINISHED)
+        self.folder.clear(folder.RULES, folder.RULED, folder.CURVE, folder.DETAILS, folder.UNFINISHED, folder.EFFECT)
         with self.steps.step("export", "reading the database and its statements"):
             found, workload = self._export()
         with self.steps.step("lint", "looking for what is probably wrong"):

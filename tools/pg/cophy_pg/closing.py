@@ -200,9 +200,15 @@ def _is_user(name: str) -> bool:
 
 
 def ending(document: dict[str, Any], kept: Folder) -> list[str]:
-    """Where all files are, and who may run the script."""
-    script = files.shown(kept.path(folder.DDL))
-    return [f"all files are in {files.shown(kept.name)}", *next_of(document, script)]
+    """Where all files are, who may run the script, and what says later what came of it."""
+    first, *doubts = next_of(document, files.shown(kept.path(folder.DDL))) or [""]
+    told = [first, *[seen_by(kept)] * bool(rows_of(document)), *doubts]
+    return [f"all files are in {files.shown(kept.name)}", *filter(None, told)]
+
+
+def seen_by(kept: Folder) -> str:
+    """What says whether the indexes helped, once they are made."""
+    return f"then, whether it helped: cophy-pg effect {shlex.quote(kept.name)}"
 
 
 def _plain(name: str) -> str:

@@ -21,6 +21,8 @@ UNFINISHED = "unfinished.txt"
 DATABASE = "database.toml"
 """The catalogue with all tables, also those that no statement names."""
 CHANGES, CHANGES_JSON = "changes.txt", "changes.json"
+EFFECT = "effect.json"
+"""A snapshot, as snapshot.json is one, of when `effect` first saw that all indexes stand."""
 
 
 class Folder:

@@ -15,6 +15,7 @@ from cophy_pg.curve import add_curve
 from cophy_pg.daily import add_daily
 from cophy_pg.ddl import NoIndex
 from cophy_pg.edits import add_edits
+from cophy_pg.effect import add_effect
 from cophy_pg.export import add_export, add_rewrite
 from cophy_text.files import ENDS, NoFile
 from cophy_pg.health import add_health
@@ -41,6 +42,7 @@ def main() -> int:
     for add in (
         add_setup,
         add_advise,
+        add_effect,
         add_report,
         add_health,
         add_daily,

@@ -17,6 +17,7 @@ from cophy_pg.closing import (
     proof_of,
     recommended_of,
     rows_of,
+    seen_by,
     time_falls,
 )
 from cophy_pg.folder import Folder
@@ -54,7 +55,8 @@ def verdict(document: dict[str, Any], kept: Folder) -> list[str]:
         commands, member = commands_of(document, script), member_of(document, script)
         lines += [f"make them{time}{', a line for each owner' * (len(commands) > 1)}:", *commands]
         if member is not None:
-            lines += [f"or without the password of {document['owners'][0]}, as a role of your own:", member]
+            lines += [f"or without the password of {document['owners'][0]}, as your own role:", member]
+        lines += [seen_by(kept)]
     return lines
 
 

@@ -1,0 +1,197 @@
+"""`effect`: whether the indexes of a folder of `advise` are there, and what came of them."""
+from __future__ import annotations
+
+import argparse
+import json
+from dataclasses import dataclass
+from typing import Any
+
+from cophy_text.files import NoFile
+from cophy_text.shown import short
+from cophy_pg import folder, inputs
+from cophy_pg.changes import Found
+from cophy_pg.closing import commands_of, doubts_of, made_hints, recommended_of
+from cophy_pg.effect_text import lines_of
+from cophy_pg.folder import Folder
+from cophy_pg.included import searched_columns
+from cophy_pg.inputs import NoInput
+from cophy_pg.measured import Measured, a_call, given_of, measured_since
+from cophy_pg.outcomes import Verdict
+from cophy_pg.overview import named
+from cophy_pg.paths import Paths, read_paths
+from cophy_pg.progress import Progress, say
+from cophy_pg.server import Server, ServerFault, add_connection, connected, reading
+from cophy_pg.snapshots import Snapshot, database_of, read_snapshot, taken_of
+from cophy_pg.standing import Standing, standing
+from cophy_pg.trust import refuse_powers
+from cophy_pg.verify import add_trust, explain_as_it_is
+
+MISSING = 3
+"""The status where an index isn't there."""
+
+
+@dataclass(frozen=True)
+class Given:
+    """A folder with its document, how what its script makes stands, and the paths of the roles of its statements."""
+
+    kept: Folder
+    document: dict[str, Any]
+    stands: list[Standing]
+    paths: Paths
+
+    def asked(self) -> list[Standing]:
+        """What the script makes without being asked, or all where nothing is recommended."""
+        return [it for it in self.stands if it.is_asked] or self.stands
+
+    def is_all_there(self) -> bool:
+        """Whether all of that is there."""
+        return all(it.is_there for it in self.asked())
+
+
+def add_effect(commands: argparse._SubParsersAction[argparse.ArgumentParser]) -> None:
+    """The words of `effect`."""
+    parser = commands.add_parser(
+        "effect",
+        help="say whether the indexes of a folder of advise are there, and what came of them",
+        description="Says which indexes of a folder's script are there and how often the server has used each, what its "
+        "planner thinks that the statements cost now, and how long a call of those that the indexes help takes since, beside "
+        "before, as pg_stat_statements counts it. No statement is executed and nothing is made. Once all indexes are there, the "
+        "folder keeps what was counted until then in effect.json, so that later calls say what came after it.",
+        epilog="The status is 0 where all indexes that are recommended are there, 3 where one isn't.",
+    )
+    parser.add_argument("folder", metavar="FOLDER", help="the folder of advise")
+    parser.add_argument("--json", action="store_true", help="print JSON instead")
+    add_connection(parser)
+    add_trust(parser)
+    parser.set_defaults(run=effect)
+
+
+def effect(words: argparse.Namespace) -> int:
+    """Prints what came of the indexes."""
+    kept, advised = Folder(words.folder), Found.of(words.folder)
+    document, schema = advised.document, advised.schema
+    if document["options"]["include"]:
+        schema.searched = searched_columns(kept.read(folder.WORKLOAD))
+    with connected(words.dsn, words.timeout) as server:
+        with reading(server):
+            if not words.is_trusted:
+                refuse_powers(server)
+            _refuse_another(server, document)
+            given = Given(kept, document, standing(server, schema, document), read_paths(server))
+            counted = _counted(server, given, words.is_trusted)
+        cost = _cost(server, given, words.is_trusted)
+    found = _document(given) | {"server_cost": cost, "counted": counted}
+    print(json.dumps(found, indent=2) if words.json else "\n".join(lines_of(found)))
+    return 0 if given.is_all_there() else MISSING
+
+
+def _refuse_another(server: Server, document: dict[str, Any]) -> None:
+    name = database_of(server)
+    if name != document["database"]:
+        raise NoInput(f"the folder is of the database {document['database']!a}, and this one is {name!a}")
+
+
+def _cost(server: Server, given: Given, is_trusted: bool) -> dict[str, Any] | None:
+    """What the statements that the server explained cost then and now, and in percent what was advised; nothing where
+    it explains none any more."""
+    document = given.document
+    then = [it for it in document["statements"] if it["server_cost"]]
+    inputs_ = (given_of(it, given.paths) for it in then)
+    found = [Verdict(at, it, {}) for at, it in enumerate(inputs_, 1)]
+    try:
+        explain_as_it_is(server, found, is_trusted, Progress())
+    except ServerFault as fault:
+        if server.is_lost():
+            raise
+        say(f"what the server's planner thinks is left out: {fault}")
+        return None
+    known = [(it, was["server_cost"]["before"]) for it, was in zip(found, then, strict=True) if it.before is not None]
+    if not known:
+        return None
+    whole, after = document["server_cost"]["before"], recommended_of(document)["server_cost"]
+    hints = sum(it["saves"]["server"] for it in made_hints(document))
+    return {
+        "statements": len(known),
+        "of": len(then),
+        "before": round(sum(it.calls * before for it, before in known), 4),
+        "now": round(sum(it.calls * (it.before or 0.0) for it, _ in known), 4),
+        "advised": round(max(0.0, 100 * after / whole - hints), 4) if whole else 100.0,
+    }
+
+
+def _counted(server: Server, given: Given, is_trusted: bool) -> dict[str, Any] | None:
+    """What was counted of the statements since all indexes stood, or else since the advice; nothing where that isn't
+    known."""
+    kept, doubts = given.kept, list[str]()
+    if given.document["options"]["source"] != "pg_stat_statements" or not kept.has(folder.SNAPSHOT):
+        return None
+    there = {it.place for it in given.stands if it.is_there}
+    try:
+        listed = inputs.from_server(server, doubts.append, is_trusted)
+        now, begin, found = taken_of(server, listed), "", list[Measured]()
+        # Where one is gone again, not all stood since then.
+        begins = {"indexes": folder.EFFECT} if given.is_all_there() and kept.has(folder.EFFECT) else {}
+        for begin, name in (begins | {"advice": folder.SNAPSHOT}).items():
+            then = read_snapshot(kept.path(name))
+            if found := measured_since(now, listed, then, given.document, given.paths, there):
+                break
+    except NoInput as fault:
+        say(f"what was counted is left out: {fault}")
+        return None
+    _keep(kept, now, given.is_all_there())
+    for it in doubts_of(given.document | {"doubts": doubts}):
+        say(f"warning: {it}")
+    return _times(begin, found)
+
+
+def _keep(kept: Folder, now: Snapshot, is_all_there: bool) -> None:
+    """Keeps what was counted until all indexes stood; where one is gone, that is over."""
+    try:
+        if not is_all_there:
+            kept.clear(folder.EFFECT)
+        elif not kept.has(folder.EFFECT):
+            kept.write({folder.EFFECT: now.text()})
+    except NoFile as fault:
+        say(f"warning: a later call can't count from now on: {fault}")
+
+
+def _times(begin: str, found: list[Measured]) -> dict[str, Any]:
+    """What was counted since a begin, of each statement and of all."""
+    before, after = a_call(found)
+    statements = [
+        {
+            "numbers": it.numbers,
+            "sql": short(it.sql),
+            "helped": it.is_helped,
+            "calls": it.calls,
+            "before": round(it.before, 6),
+            "since": round(it.since, 6),
+        }
+        for it in found
+    ]
+    times = {"before": round(before, 6), "since": round(after, 6)}
+    return {"begin": begin, "calls": sum(it.calls for it in found), **times, "statements": statements}
+
+
+def _document(given: Given) -> dict[str, Any]:
+    """How the indexes stand, as the begin of a document of JSON whose form is `effect.schema.json`."""
+    asked, script = given.asked(), given.kept.path(folder.DDL)
+    return {
+        "version": 1,
+        "database": given.document["database"],
+        "made": given.document["made"],
+        "source": given.document["options"]["source"],
+        "indexes": [
+            {
+                "place": it.place,
+                "index": named(it.row),
+                "name": it.row["name"],
+                "recommended": it.is_asked,
+                "state": it.state,
+                "scans": it.scans,
+            }
+            for it in given.stands
+            if it in asked or it.is_there
+        ],
+        "make": [] if given.is_all_there() else commands_of(given.document, script),
+    }

@@ -1,0 +1,99 @@
+"""What `effect` prints for people: three sentences, the indexes, and the statements whose time became another."""
+from __future__ import annotations
+
+from typing import Any
+
+from cophy_text.shown import grouped, percent, share, short
+from cophy_pg.standing import THERE
+
+MOST_LINES, MOST_STATEMENTS, MOST_SLOWER, LEAST_INDEXES = 20, 10, 3, 4
+"""So many lines are printed, of them so many statements, so many that got slower, and at least so many indexes."""
+
+
+def lines_of(found: dict[str, Any]) -> list[str]:
+    """The text of a document."""
+    head, statements, end = _sentences(found), _statements(found), _rest(found)
+    room = MOST_LINES - len(head) - len(statements) - len(end) - 2
+    return [*head, *_indexes(found["indexes"], max(room, LEAST_INDEXES)), *statements, *end]
+
+
+def _sentences(found: dict[str, Any]) -> list[str]:
+    """Whether all is there, and what that brought by the planner and by the clock."""
+    lines, cost, counted = [_there(found["indexes"])], found["server_cost"], found["counted"]
+    if cost:
+        part = f"{cost['statements']} of {cost['of']}" if cost["statements"] < cost["of"] else "The"
+        now, said = share(cost["now"], cost["before"]), percent(cost["advised"])
+        lines += [f"{part} statements cost {now} of before by the server's planner; the advice said {said}."]
+    if found["source"] != "pg_stat_statements":
+        return [*lines, "The statements came from a file, so no times are compared."]
+    if counted is None or not any(it["state"] == THERE for it in found["indexes"]):
+        return lines
+    if not counted["statements"]:
+        again = "calls are counted from now on: call this again later."
+        return [*lines, f"No statement that they help was called since; {again}"]
+    lines += [f"{_begin(counted)} took {_ms(counted['since'])} ms a call, {_ms(counted['before'])} before."]
+    if counted["begin"] == "advice":
+        later = "" if found["make"] else "; called again later, this counts from now on"
+        lines += [f"Calls before the indexes stood count too{later}."]
+    return lines
+
+
+def _there(indexes: list[dict[str, Any]]) -> str:
+    """How many are there, and in use."""
+    there = [it for it in indexes if it["state"] == THERE]
+    used = sum(it["scans"] > 0 for it in there)
+    if not indexes:
+        return "The folder has no index to make."
+    if len(indexes) == 1:
+        return f"The index is {'there' if there else 'not there'}{', not used yet' * (bool(there) and not used)}."
+    if not there:
+        return f"None of the {len(indexes)} indexes is there."
+    count = f"All {len(indexes)}" if len(there) == len(indexes) else f"{len(there)} of {len(indexes)}"
+    return f"{count} indexes are there, {used or 'none'} of them in use{' yet' * (not used)}."
+
+
+def _begin(counted: dict[str, Any]) -> str:
+    begin = "Since all indexes stood" if counted["begin"] == "indexes" else "Since the advice"
+    count = len(counted["statements"])
+    return f"{begin} {'this statement' if count == 1 else f'these {count} statements'}"
+
+
+def _indexes(indexes: list[dict[str, Any]], room: int) -> list[str]:
+    """A row for each index, or for those that aren't there and the first others."""
+    if not indexes:
+        return []
+    most = room if len(indexes) <= room else room - 1
+    shown = sorted(indexes, key=lambda it: (it["state"] == THERE, it["place"]))[:most]
+    rest = [it for it in indexes if it not in shown]
+    lines = ["", f"{'scans':>17}  index"]
+    for it in sorted(shown, key=lambda it: int(it["place"])):
+        uses = grouped(it["scans"]) if it["state"] == THERE else it["state"]
+        number, name = f"{it['place']}.", short(it["index"], 80)
+        lines += [f"{number:>3} {uses:>13}  {name}"]
+    there = sum(it["state"] == THERE for it in rest)
+    return lines + [f"and {len(rest)} more, of which {there} are there"] * bool(rest)
+
+
+def _statements(found: dict[str, Any]) -> list[str]:
+    """A row for each statement that saved the most, and for those that got the slowest."""
+    if not found["counted"] or not found["counted"]["statements"]:
+        return []
+    every = found["counted"]["statements"]
+    slower = [it for it in every if it["since"] > it["before"]][-MOST_SLOWER:]
+    others = [it for it in every if it not in slower]
+    shown = [*others[: MOST_STATEMENTS - len(slower)], *slower]
+    lines = ["", f"{'ms before':>10} {'ms since':>10} {'calls':>11}  statement"]
+    lines += [f"{_ms(it['before']):>10} {_ms(it['since']):>10} {grouped(it['calls']):>11}  {it['sql']}" for it in shown]
+    more = len(every) - len(shown)
+    return lines + [f"and {grouped(more)} more"] * bool(more)
+
+
+def _rest(found: dict[str, Any]) -> list[str]:
+    """What makes those that aren't there."""
+    others = "the others" if any(it["state"] == THERE for it in found["indexes"]) else "them"
+    return ["", f"to make {others}:", *found["make"]] if found["make"] else []
+
+
+def _ms(time: float) -> str:
+    """Milliseconds in digits that say something."""
+    return f"{time:,.1f}" if time >= 1 else f"{time:.2f}" if time >= 0.1 else f"{time:.3f}"

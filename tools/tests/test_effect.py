@@ -1,0 +1,329 @@
+"""`cophy-pg effect`: which indexes of a folder are there, and what came of them by the planner and by the clock."""
+from __future__ import annotations
+
+import json
+import subprocess
+import unittest
+from typing import Any
+
+from fixtures import NO_HYPOPG, NO_PARSER, ROOT, STAND_IN, OverOwn
+from schema_check import faults
+
+if not NO_PARSER:
+    from cophy_pg.ddl import Laid, Made, Named
+    from cophy_pg.effect_text import lines_of
+    from cophy_pg.inputs import Input
+    from cophy_pg.measured import a_call, measured_since
+    from cophy_pg.paths import Paths
+    from cophy_pg.snapshots import Count, Snapshot, digest
+    from cophy_pg.standing import Found, shown_column, state_of
+    from cophy_text.answers import Candidate
+
+SCHEMA = json.loads((ROOT / "tools" / "pg" / "cophy_pg" / "effect.schema.json").read_text())
+MADE = """CREATE EXTENSION pg_stat_statements;
+CREATE TABLE t AS SELECT i AS a, i % 700 AS b, i % 90 AS c, repeat('x', 90) AS d FROM generate_series(1, 30000) i;
+CREATE TABLE part (k int, v int, d text) PARTITION BY RANGE (k);
+CREATE TABLE part_1 PARTITION OF part FOR VALUES FROM (0) TO (50);
+CREATE TABLE part_2 PARTITION OF part FOR VALUES FROM (50) TO (100);
+INSERT INTO part SELECT i % 100, i % 9000, repeat('x', 90) FROM generate_series(1, 30000) i;
+CREATE TABLE person AS SELECT i AS id, 'Name ' || i AS "Log in", repeat('y', 90) AS d FROM generate_series(1, 30000) i;
+ANALYZE;
+"""
+STATEMENTS = """SELECT a /* \x1b[2J\x9b */ FROM t WHERE b = 5;
+SELECT d FROM part WHERE v = 7;
+SELECT id FROM person WHERE lower("Log in") = 'name 7';
+"""
+
+
+@unittest.skipIf(NO_PARSER, NO_PARSER)
+class Standing(unittest.TestCase):
+    """How a pick stands, by indexes that were found."""
+
+    def found(self, name: str, *columns: str, **more: Any) -> Found:
+        flags = {"is_valid": True, "is_clustered": False, "is_plain": True, "is_btree": True, "is_being_made": False}
+        table = more.pop("table", ("s", "t"))
+        return Found(("s", name), table, columns=[*columns], scans=3, **flags | more)
+
+    def made(self, *tables: str, laid: Laid | None = None) -> Made:
+        indexes = (Named(f"{it}_a_b_idx", ("s", it), ["a", "b"], 2, True) for it in tables)
+        return Made(Candidate(1, "t", ("a", "b"), 9), (*indexes,), laid=laid)
+
+    def test_an_index_goes_by_its_name_and_what_it_is_over(self) -> None:
+        one = self.made("t")
+        table: list[tuple[list[Found], tuple[str, int]]] = [
+            ([], ("not made", 0)),
+            ([self.found("t_a_b_idx", "a", "b")], ("there", 3)),
+            ([self.found("t_a_b_idx", "a", "b", is_valid=False)], ("INVALID", 3)),
+            ([self.found("t_a_b_idx", "a", "b", is_valid=False, is_being_made=True)], ("being made", 3)),
+            ([self.found("t_a_b_idx", "b", "a")], ("name taken", 0)),
+            ([self.found("t_a_b_idx", "a", "b", table=("s", "u"))], ("name taken", 0)),
+            ([self.found("t_a_b_idx", "a", "b", is_plain=False)], ("name taken", 0)),
+            ([self.found("t_a_b_idx", table=("", ""), is_plain=False)], ("name taken", 0)),
+            # One over the same by another name serves as well, if it is one of this kind.
+            ([self.found("mine", "a", "b")], ("there", 3)),
+            ([self.found("t_a_b_idx", "b"), self.found("mine", "a", "b")], ("there", 3)),
+            ([self.found("mine", "a", "b", is_valid=False)], ("not made", 0)),
+            ([self.found("mine", "a", "b", is_btree=False)], ("not made", 0)),
+            ([self.found("mine", "a", "b", "c")], ("not made", 0)),
+        ]
+        for found, state in table:
+            with self.subTest(found=found):
+                self.assertEqual(state_of(one, found), state)
+
+    def test_of_several_indexes_the_worst_is_told_and_all_scans_count(self) -> None:
+        two, first = self.made("t", "u"), self.found("t_a_b_idx", "a", "b")
+        other = {"table": ("s", "u")}
+        self.assertEqual(state_of(two, [first]), ("not made", 3))
+        self.assertEqual(state_of(two, [first, self.found("u_a_b_idx", "a", "b", **other)]), ("there", 6))
+        invalid = self.found("u_a_b_idx", "a", "b", is_valid=False, **other)
+        self.assertEqual(state_of(two, [first, invalid])[0], "INVALID")
+
+    def test_rows_lie_in_the_order_of_an_index_or_dont(self) -> None:
+        laid = Laid(("s", "t"), "t_a_b_idx")
+        for made in (self.made("t", laid=laid), self.made(laid=laid)):
+            for is_clustered, state in ((True, ("there", 3)), (False, ("not clustered", 3))):
+                found = [self.found("t_a_b_idx", "a", "b", is_clustered=is_clustered)]
+                self.assertEqual(state_of(made, found), state)
+        self.assertEqual(state_of(self.made("t", laid=laid), []), ("not made", 0))
+
+    def test_a_function_of_a_column_is_shown_without_quotes_and_cast(self) -> None:
+        shown = {
+            "lower(a)": "lower(a)",
+            'lower("Log in")': "lower(Log in)",
+            'upper("a""b"::text)': 'upper(a"b)',
+            "lower(a::text)": "lower(a)",
+            "plain": "plain",
+        }
+        self.assertEqual([shown_column(it) for it in shown], [*shown.values()])
+
+
+@unittest.skipIf(NO_PARSER, NO_PARSER)
+class Times(unittest.TestCase):
+    """What was counted since, of statements with 10 calls and 1 ms each before."""
+
+    def setUp(self) -> None:
+        self.paths = Paths({"app": "sales"}, "public", "me", "public")
+        self.statements = [
+            {"numbers": [at], "sql": f"SELECT {at}", "role": "app", "calls": 10, "seconds": 0.01, "picks": picks}
+            for at, picks in enumerate(([1], [2], [], [], []), 1)
+        ]
+        hint = {"place": 3, "why_not": None, "changes": [{"numbers": [3]}]}
+        self.document: dict[str, Any] = {"statements": self.statements, "hints": [hint]}
+        self.then = Snapshot("7", {digest(self.input(at, 10, 0.01)): Count(10, 0.01, 0.0) for at in range(1, 6)}, "d")
+
+    def input(self, at: int, calls: int, seconds: float) -> Input:
+        return Input(f"SELECT {at}", calls, seconds, 0.0, role="app", path=("sales",))
+
+    def measured(self, *counts: tuple[int, float], there: tuple[int, ...] = (1, 3)) -> list[tuple[int, bool, int]]:
+        """The numbers of the statements, whether an index helps them, and their calls since."""
+        now = [self.input(at, calls, seconds) for at, (calls, seconds) in enumerate(counts, 1)]
+        found = measured_since(Snapshot("7", {}, "d"), now, self.then, self.document, self.paths, there)
+        self.times = a_call(found)
+        return [(it.numbers[0], it.is_helped, it.calls) for it in found]
+
+    def test_those_that_indexes_help_are_told_and_the_most_saved_first(self) -> None:
+        # The second one's index isn't there, and the third one has a hint.
+        counts = (20, 0.015), (20, 0.015), (110, 0.02), (20, 0.0205), (10, 0.01)
+        self.assertEqual(self.measured(*counts), [(3, True, 100), (1, True, 10)])
+        self.assertAlmostEqual(self.times[0], 1.0)
+        self.assertAlmostEqual(self.times[1], 15 / 110)
+        self.assertEqual([it[0] for it in self.measured(*counts, there=(2,))], [2])
+
+    def test_what_got_much_slower_is_told_too(self) -> None:
+        counts = (20, 0.011), (10, 0.01), (10, 0.01), (20, 0.03), (20, 0.021)
+        self.assertEqual(self.measured(*counts), [(1, True, 10), (4, False, 10)])
+        # A loss that nobody feels isn't.
+        counts = (1010, 1.01), (10, 0.01), (10, 0.01), (20, 0.0225), (10, 0.01)
+        self.assertEqual(self.measured(*counts), [(1, True, 1000)])
+
+    def test_what_wasnt_called_or_has_another_path_isnt(self) -> None:
+        same = [(10, 0.01)] * 5
+        self.assertEqual(self.measured(*same), [])
+        self.paths.by_role["app"] = "other"
+        self.assertEqual(self.measured((20, 0.011)), [])
+        self.assertEqual(a_call([]), (0.0, 0.0))
+
+
+@unittest.skipIf(NO_PARSER, NO_PARSER)
+class Text(unittest.TestCase):
+    def found(self, count: int, statements: int, **more: Any) -> dict[str, Any]:
+        """A document of so many indexes, each tenth of which is INVALID, and so many statements."""
+        indexes = [
+            {
+                "place": at,
+                "index": f"t{at}({'a' * (90 if at == 1 else 3)})",
+                "name": "i",
+                "recommended": True,
+                "state": "INVALID" if at % 10 == 0 else "there",
+                "scans": at - 1,
+            }
+            for at in range(1, count + 1)
+        ]
+        listed = [
+            {"numbers": [at], "sql": "S" * 60, "helped": True, "calls": 9, "before": 3000.0, "since": 40.0 * at}
+            for at in range(1, statements + 1)
+        ]
+        counted = {"begin": "indexes", "calls": 9, "before": 3.14, "since": 0.4, "statements": listed}
+        cost = {"statements": 9, "of": 9, "before": 200.0, "now": 20.0, "advised": 9.0}
+        document = {"version": 1, "database": "d", "made": "", "source": "pg_stat_statements", "indexes": indexes}
+        document |= {"make": ["psql"] * (count >= 10), "server_cost": cost, "counted": counted} | more
+        self.assertEqual([*faults(document, SCHEMA, SCHEMA)], [])
+        return document
+
+    def test_it_has_few_lines_that_are_narrow(self) -> None:
+        lines = lines_of(self.found(2, 2))
+        self.assertEqual(lines[0], "All 2 indexes are there, 1 of them in use.")
+        self.assertEqual(
+            lines[1], "The statements cost 10.0 % of before by the server's planner; the advice said 9.0 %."
+        )
+        self.assertEqual(lines[2], "Since all indexes stood these 2 statements took 0.40 ms a call, 3.1 before.")
+        self.assertRegex(lines[5], r"^ 1\. +0  t1\(a+\.\.\.$")
+        self.assertEqual(lines[6], " 2.             1  t2(aaa)")
+        self.assertEqual(lines[9], f"{'3,000.0':>10} {'40.0':>10} {'9':>11}  {'S' * 60}")
+        for count, statements in ((21, 0), (10, 10), (3, 90), (90, 90)):
+            lines = lines_of(self.found(count, statements))
+            self.assertLessEqual(len(lines), 25)
+            self.assertLessEqual(max(map(len, lines)), 100)
+            # All that aren't there are told while there is room.
+            self.assertEqual(sum("INVALID" in it for it in lines), min(4, count // 10) if count < 90 else 3)
+
+    def test_those_that_got_slower_are_the_last_of_ten(self) -> None:
+        lines = lines_of(self.found(1, 90))
+        at = next(at for at, it in enumerate(lines) if it.endswith("  statement"))
+        self.assertEqual(len(lines) - at, 12)
+        self.assertEqual([it.split()[1] for it in lines[at + 8 : at + 11]], ["3,520.0", "3,560.0", "3,600.0"])
+        self.assertEqual(lines[-1], "and 80 more")
+
+    def test_what_isnt_known_is_left_out(self) -> None:
+        again = "No statement that they help was called since; calls are counted from now on: call this again later."
+        self.assertEqual(lines_of(self.found(1, 0))[0], "The index is there, not used yet.")
+        self.assertEqual(lines_of(self.found(1, 0))[2], again)
+        lines = lines_of(self.found(1, 0, counted=None, server_cost=None, source="sql"))
+        self.assertEqual(lines[1:3], ["The statements came from a file, so no times are compared.", ""])
+        self.assertEqual(
+            lines_of(self.found(0, 0, counted=None, server_cost=None)), ["The folder has no index to make."]
+        )
+        some = {"statements": 3, "of": 9, "before": 200.0, "now": 20.0, "advised": 9.0}
+        self.assertTrue(lines_of(self.found(1, 0, server_cost=some))[1].startswith("3 of 9 statements cost 10.0 % of"))
+
+    def test_calls_from_before_the_indexes_stood_are_told(self) -> None:
+        counted = self.found(2, 1)["counted"] | {"begin": "advice"}
+        lines = lines_of(self.found(2, 1, counted=counted))
+        self.assertTrue(lines[2].startswith("Since the advice this statement took "))
+        later = "Calls before the indexes stood count too; called again later, this counts from now on."
+        self.assertEqual(lines[3], later)
+        lines = lines_of(self.found(2, 1, counted=counted, make=["psql -X"]))
+        self.assertEqual(lines[3], "Calls before the indexes stood count too.")
+        self.assertEqual(lines[-2:], ["to make the others:", "psql -X"])
+
+
+@unittest.skipIf(NO_HYPOPG, NO_HYPOPG)
+class Effect(OverOwn):
+    """From the advice of a stand-in for the program to indexes that are there, and back."""
+
+    database, content = "seen", MADE
+    given = {"COPHY_PROGRAM": str(STAND_IN)}
+
+    def advise(self, *more: str) -> str:
+        """What advice prints; the path of its folder is `found`."""
+        self.server.psql("SELECT pg_stat_statements_reset()", self.database)
+        self.server.psql(STATEMENTS * 9, self.database)
+        self.found = str(self.folder / "advice of today")
+        words = ("advise", "--budget", "20MB", "--no-curve", "--folder", self.found)
+        return self.call(*words, *more).stdout
+
+    def effect(self, status: int = 0) -> dict[str, Any]:
+        """The document of a call."""
+        found: dict[str, Any] = json.loads(self.call("effect", self.found, "--json", status=status).stdout)
+        self.assertEqual([*faults(found, SCHEMA, SCHEMA)], [])
+        return found
+
+    def states(self, status: int = 0) -> list[str]:
+        """How those of t, of part and of person stand."""
+        by_table = {it["index"].partition("(")[0]: it["state"] for it in self.effect(status)["indexes"]}
+        return [by_table[it] for it in ("t", "part", "person")]
+
+    def undo(self) -> None:
+        self.server.psql("DROP INDEX IF EXISTS t_b_idx, part_v_idx, mine", self.database)
+        self.run_script(self.script(), "-v", "undo=1")
+
+    def script(self) -> str:
+        return (self.folder / "advice of today" / "indexes.sql").read_text()
+
+    def test_from_the_advice_to_the_times(self) -> None:
+        summary = self.advise()
+        then = f"then, whether it helped: cophy-pg effect '{self.found}'"
+        self.assertEqual(summary.splitlines()[-1], then)
+        kept = self.folder / "advice of today" / "effect.json"
+        text = self.call("effect", self.found, status=3).stdout
+        self.assertTrue(text.startswith("None of the 3 indexes is there.\nThe statements cost 100.0 % of before by "))
+        self.assertEqual(text.count("      not made  "), 3)
+        self.assertIn(text.splitlines()[-1], summary.splitlines())
+        self.assertFalse(kept.exists())
+        self.addCleanup(self.undo)
+        self.run_script(self.script())
+        found = self.effect()
+        indexes = {it["index"] for it in found["indexes"]}
+        self.assertEqual(indexes, {"t(b)", "part(v)", "person(lower(Log_in))"})
+        self.assertEqual([(it["place"], it["scans"]) for it in found["indexes"]], [(1, 0), (2, 0), (3, 0)])
+        self.assertEqual((found["counted"]["begin"], found["counted"]["statements"]), ("advice", []))
+        self.assertNotIn("SELECT", kept.read_text())
+        self.assertEqual(kept.stat().st_mode & 0o777, 0o600)
+        self.server.psql(STATEMENTS * 5, self.database)
+        found = self.effect()
+        scans = {it["index"]: it["scans"] for it in found["indexes"]}
+        self.assertEqual(scans, {"t(b)": 5, "part(v)": 10, "person(lower(Log_in))": 5})
+        counted, cost = found["counted"], found["server_cost"]
+        self.assertEqual((counted["begin"], counted["calls"]), ("indexes", 15))
+        self.assertLess(counted["since"], counted["before"])
+        self.assertEqual({it["helped"] for it in counted["statements"]}, {True})
+        self.assertLess(cost["now"], cost["before"] / 2)
+        text = self.call("effect", self.found).stdout
+        self.assertTrue(text.startswith("All 3 indexes are there, 3 of them in use.\n"), text)
+        self.assertTrue("".join(text.split("\n")).isprintable())
+        self.assertIn("  SELECT a /* ?[2J? */ FROM t WHERE b = $1\n", text)
+
+    def test_what_isnt_there_or_has_another_name(self) -> None:
+        self.advise()
+        self.addCleanup(self.undo)
+        self.run_script(self.script())
+        self.assertEqual(self.states(), ["there"] * 3)
+        self.server.psql(STATEMENTS, self.database)
+        spoil = "UPDATE pg_index SET indisvalid = false WHERE indexrelid = '{}'::regclass"
+        self.server.psql(spoil.format("t_b_idx"), self.database)
+        self.assertEqual(self.states(status=3), ["INVALID", "there", "there"])
+        found = self.effect(status=3)
+        # Since not all stood since then, it isn't counted from there on.
+        self.assertEqual((found["counted"]["begin"], found["counted"]["calls"]), ("advice", 2))
+        self.assertFalse((self.folder / "advice of today" / "effect.json").exists())
+        self.server.psql("DROP INDEX t_b_idx; CREATE INDEX mine ON t (b); DROP INDEX part_v_idx", self.database)
+        self.assertEqual(self.states(status=3), ["there", "not made", "there"])
+        self.server.psql(
+            "DROP INDEX mine; CREATE INDEX t_b_idx ON t (c); CREATE INDEX part_v_idx ON ONLY part (v)", self.database
+        )
+        self.assertEqual(self.states(status=3), ["name taken", "INVALID", "there"])
+
+    def test_statements_of_a_file_have_no_times(self) -> None:
+        (self.folder / "given.sql").write_text("SELECT a FROM t WHERE b = 5;\n")
+        self.advise("--sql", *self.in_folder("given.sql"))
+        text = self.call("effect", self.found, status=3).stdout
+        self.assertIn("The statements came from a file, so no times are compared.\n", text)
+        self.assertIsNone(self.effect(status=3)["counted"])
+
+    def test_what_it_cant_do(self) -> None:
+        self.advise()
+        another = "the folder is of the database 'seen', and this one is 'postgres'"
+        table: list[tuple[str, dict[str, str], str]] = [
+            (self.found, {"PGUSER": "cophy"}, "explain statements as a superuser"),
+            (self.found, {"PGDATABASE": "postgres"}, another),
+            ("/nowhere", {}, "/nowhere/advice.json"),
+        ]
+        for name, more, said in table:
+            with self.subTest(said=said):
+                self.assertIn(said, self.call("effect", name, status=1, **more).stderr)
+        self.call("effect", status=2)
+        self.call("effect", self.found, "--i-trust-the-statements", status=3, PGUSER="cophy")
+
+
+if __name__ == "__main__":
+    unittest.main()
