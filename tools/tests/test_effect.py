@@ -2,21 +2,24 @@
 from __future__ import annotations
 
 import json
-import subprocess
 import unittest
 from typing import Any
+from unittest import mock
 
 from fixtures import NO_HYPOPG, NO_PARSER, ROOT, STAND_IN, OverOwn
 from schema_check import faults
 
 if not NO_PARSER:
     from cophy_pg.ddl import Laid, Made, Named
+    from cophy_pg.effect import Given, described
     from cophy_pg.effect_text import lines_of
+    from cophy_pg.folder import Folder
     from cophy_pg.inputs import Input
     from cophy_pg.measured import a_call, measured_since
     from cophy_pg.paths import Paths
     from cophy_pg.snapshots import Count, Snapshot, digest
     from cophy_pg.standing import Found, shown_column, state_of
+    from cophy_pg.standing import Standing as Stands
     from cophy_text.answers import Candidate
 
 SCHEMA = json.loads((ROOT / "tools" / "pg" / "cophy_pg" / "effect.schema.json").read_text())
@@ -95,6 +98,37 @@ class Standing(unittest.TestCase):
             "plain": "plain",
         }
         self.assertEqual([shown_column(it) for it in shown], [*shown.values()])
+
+
+@unittest.skipIf(NO_PARSER, NO_PARSER)
+class Asked(unittest.TestCase):
+    """What is asked for of what a script makes, and what is shown."""
+
+    def given(self, *rows: tuple[str, bool]) -> Given:
+        """What the script makes, each as it stands, and whether it is recommended."""
+        pick = {"table": "t", "columns": ["a"], "name": "i"}
+        stands = [
+            Stands(at, pick | {"caveat": None if is_asked else "it saves 0.4 %"}, state, 0)
+            for at, (state, is_asked) in enumerate(rows, 1)
+        ]
+        document = {"database": "d", "made": "", "options": {"source": "sql"}, "owners": [], "picks": []}
+        return Given(Folder("/f"), document, stands, mock.Mock())
+
+    def shown(self, *rows: tuple[str, bool]) -> tuple[list[int], bool]:
+        given = self.given(*rows)
+        with mock.patch("cophy_pg.effect.commands_of", return_value=["psql"]):
+            document = described(given)
+        self.assertEqual(document["make"], [] if given.is_all_there() else ["psql"])
+        return [it["place"] for it in document["indexes"]], given.is_all_there()
+
+    def test_what_isnt_recommended_is_shown_where_it_is_there(self) -> None:
+        self.assertEqual(self.shown(("there", True), ("not made", False)), ([1], True))
+        self.assertEqual(self.shown(("INVALID", True), ("there", False)), ([1, 2], False))
+
+    def test_where_nothing_is_recommended_all_are_asked_for(self) -> None:
+        self.assertEqual(self.shown(("there", False), ("not made", False)), ([1, 2], False))
+        self.assertEqual(self.shown(("there", False)), ([1], True))
+        self.assertEqual(self.shown(), ([], True))
 
 
 @unittest.skipIf(NO_PARSER, NO_PARSER)
@@ -182,10 +216,11 @@ class Text(unittest.TestCase):
         self.assertEqual(lines[9], f"{'3,000.0':>10} {'40.0':>10} {'9':>11}  {'S' * 60}")
         for count, statements in ((21, 0), (10, 10), (3, 90), (90, 90)):
             lines = lines_of(self.found(count, statements))
-            self.assertLessEqual(len(lines), 25)
+            self.assertLessEqual(len(lines), 21)
             self.assertLessEqual(max(map(len, lines)), 100)
-            # All that aren't there are told while there is room.
-            self.assertEqual(sum("INVALID" in it for it in lines), min(4, count // 10) if count < 90 else 3)
+            # Those that aren't there are told while there is room.
+            self.assertEqual(sum("INVALID" in it for it in lines), min(3, count // 10))
+        self.assertIn("and 87 more, of which 81 are there", lines)
 
     def test_those_that_got_slower_are_the_last_of_ten(self) -> None:
         lines = lines_of(self.found(1, 90))

@@ -80,7 +80,7 @@ def effect(words: argparse.Namespace) -> int:
             given = Given(kept, document, standing(server, schema, document), read_paths(server))
             counted = _counted(server, given, words.is_trusted)
         cost = _cost(server, given, words.is_trusted)
-    found = _document(given) | {"server_cost": cost, "counted": counted}
+    found = described(given) | {"server_cost": cost, "counted": counted}
     print(json.dumps(found, indent=2) if words.json else "\n".join(lines_of(found)))
     return 0 if given.is_all_there() else MISSING
 
@@ -96,8 +96,7 @@ def _cost(server: Server, given: Given, is_trusted: bool) -> dict[str, Any] | No
     it explains none any more."""
     document = given.document
     then = [it for it in document["statements"] if it["server_cost"]]
-    inputs_ = (given_of(it, given.paths) for it in then)
-    found = [Verdict(at, it, {}) for at, it in enumerate(inputs_, 1)]
+    found = [Verdict(at, given_of(it, given.paths), dict.fromkeys(it["numbers"], 1.0)) for at, it in enumerate(then, 1)]
     try:
         explain_as_it_is(server, found, is_trusted, Progress())
     except ServerFault as fault:
@@ -173,7 +172,7 @@ def _times(begin: str, found: list[Measured]) -> dict[str, Any]:
     return {"begin": begin, "calls": sum(it.calls for it in found), **times, "statements": statements}
 
 
-def _document(given: Given) -> dict[str, Any]:
+def described(given: Given) -> dict[str, Any]:
     """How the indexes stand, as the begin of a document of JSON whose form is `effect.schema.json`."""
     asked, script = given.asked(), given.kept.path(folder.DDL)
     return {

@@ -6,15 +6,20 @@ from typing import Any
 from cophy_text.shown import grouped, percent, share, short
 from cophy_pg.standing import THERE
 
-MOST_LINES, MOST_STATEMENTS, MOST_SLOWER, LEAST_INDEXES = 20, 10, 3, 4
-"""So many lines are printed, of them so many statements, so many that got slower, and at least so many indexes."""
+MOST_LINES, MOST_STATEMENTS, MOST_SLOWER, LEAST = 20, 10, 3, 4
+"""About so many lines are printed, of them at most so many statements, of these so many that got slower; and at least so many
+rows of indexes and of statements."""
 
 
 def lines_of(found: dict[str, Any]) -> list[str]:
     """The text of a document."""
-    head, statements, end = _sentences(found), _statements(found), _rest(found)
-    room = MOST_LINES - len(head) - len(statements) - len(end) - 2
-    return [*head, *_indexes(found["indexes"], max(room, LEAST_INDEXES)), *statements, *end]
+    head, end, indexes = _sentences(found), _rest(found), found["indexes"]
+    statements = found["counted"]["statements"] if found["counted"] else []
+    # Each of both has a blank line and one of names.
+    room = MOST_LINES - len(head) - len(end) - 4
+    rows = min(len(indexes), max(LEAST, room - min(len(statements), MOST_STATEMENTS)))
+    others = min(MOST_STATEMENTS, max(LEAST, room - rows))
+    return [*head, *_indexes(indexes, rows), *_statements(statements, others), *end]
 
 
 def _sentences(found: dict[str, Any]) -> list[str]:
@@ -58,30 +63,28 @@ def _begin(counted: dict[str, Any]) -> str:
     return f"{begin} {'this statement' if count == 1 else f'these {count} statements'}"
 
 
-def _indexes(indexes: list[dict[str, Any]], room: int) -> list[str]:
-    """A row for each index, or for those that aren't there and the first others."""
+def _indexes(indexes: list[dict[str, Any]], most: int) -> list[str]:
+    """A row for each index; where they are more, for those that aren't there and the first others, and one for the rest."""
     if not indexes:
         return []
-    most = room if len(indexes) <= room else room - 1
-    shown = sorted(indexes, key=lambda it: (it["state"] == THERE, it["place"]))[:most]
-    rest = [it for it in indexes if it not in shown]
+    by_need = sorted(indexes, key=lambda it: (it["state"] == THERE, it["place"]))
+    shown = by_need if len(indexes) <= most else by_need[: most - 1]
     lines = ["", f"{'scans':>17}  index"]
     for it in sorted(shown, key=lambda it: int(it["place"])):
-        uses = grouped(it["scans"]) if it["state"] == THERE else it["state"]
-        number, name = f"{it['place']}.", short(it["index"], 80)
-        lines += [f"{number:>3} {uses:>13}  {name}"]
+        uses, number = grouped(it["scans"]) if it["state"] == THERE else it["state"], f"{it['place']}."
+        lines += [f"{number:>3} {uses:>13}  {short(it['index'], 80)}"]
+    rest = by_need[len(shown) :]
     there = sum(it["state"] == THERE for it in rest)
     return lines + [f"and {len(rest)} more, of which {there} are there"] * bool(rest)
 
 
-def _statements(found: dict[str, Any]) -> list[str]:
+def _statements(every: list[dict[str, Any]], most: int) -> list[str]:
     """A row for each statement that saved the most, and for those that got the slowest."""
-    if not found["counted"] or not found["counted"]["statements"]:
+    if not every:
         return []
-    every = found["counted"]["statements"]
     slower = [it for it in every if it["since"] > it["before"]][-MOST_SLOWER:]
     others = [it for it in every if it not in slower]
-    shown = [*others[: MOST_STATEMENTS - len(slower)], *slower]
+    shown = [*others[: most - len(slower)], *slower]
     lines = ["", f"{'ms before':>10} {'ms since':>10} {'calls':>11}  statement"]
     lines += [f"{_ms(it['before']):>10} {_ms(it['since']):>10} {grouped(it['calls']):>11}  {it['sql']}" for it in shown]
     more = len(every) - len(shown)

@@ -93,7 +93,7 @@ def judge(
     """Explains statements with the picks, and without them where that isn't known, and fills their verdicts."""
     with reading(server, "READ COMMITTED"):
         explainer, functions = _explainer(server, found, is_trusted)
-        _explain_without(explainer, found, progress)
+        _explain_without(explainer, found, progress, " without the picks")
         listed, made = make(server, schema, advice)
         for at, it in enumerate(found, 1):
             progress(f"explaining statement {at} of {len(found)} with the picks")
@@ -108,7 +108,7 @@ def explain_as_it_is(server: Server, found: list[Verdict], is_trusted: bool, pro
         explainer, _ = _explainer(server, found, is_trusted)
         # A session behind a pooler may have some of an earlier one.
         home_of(server)
-        _explain_without(explainer, found, progress)
+        _explain_without(explainer, found, progress, "")
 
 
 def _explainer(server: Server, found: list[Verdict], is_trusted: bool) -> tuple[Explainer, list[str]]:
@@ -120,11 +120,11 @@ def _explainer(server: Server, found: list[Verdict], is_trusted: bool) -> tuple[
     return Explainer(server, Columns.read(server, tables)), functions
 
 
-def _explain_without(explainer: Explainer, found: list[Verdict], progress: Progress) -> None:
-    """Explains those statements whose cost without the picks isn't known."""
+def _explain_without(explainer: Explainer, found: list[Verdict], progress: Progress, how: str) -> None:
+    """Explains those statements whose cost without the picks isn't known; how, is told."""
     unknown = [it for it in found if it.before is None]
     for at, it in enumerate(unknown, 1):
-        progress(f"explaining statement {at} of {len(unknown)} without the picks")
+        progress(f"explaining statement {at} of {len(unknown)}{how}")
         _explain(explainer, it, {}, False)
 
 
