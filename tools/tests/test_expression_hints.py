@@ -385,11 +385,12 @@ class Made(OverOwn):
                 self.assertEqual(self.made(), ["plain_lower_c_idx"])
                 self.server.psql("DROP INDEX plain_lower_c_idx", self.database)
 
-    def test_one_that_was_to_be_unique_or_is_partial_is_left_alone(self) -> None:
+    def test_one_that_was_to_be_unique_or_is_partial_or_no_tree_is_left_alone(self) -> None:
         text = self.script("plain(lower(c))")
-        for kind, end in (("UNIQUE", ""), ("", "WHERE c = 'c'")):
-            with self.subTest(kind=kind, end=end):
-                other = f"CREATE {kind} INDEX CONCURRENTLY plain_lower_c_idx ON plain (pg_catalog.lower(c)) {end}"
+        for kind, method, end in (("UNIQUE", "btree", ""), ("", "btree", "WHERE c = 'c'"), ("", "hash", "")):
+            with self.subTest(kind=kind, method=method, end=end):
+                columns = f"USING {method} (pg_catalog.lower(c))"
+                other = f"CREATE {kind} INDEX CONCURRENTLY plain_lower_c_idx ON plain {columns} {end}"
                 self.server.psql(other, self.database, check=False)
                 made = self.made()
                 self.assertEqual(len(made), 1)

@@ -11,7 +11,7 @@ from typing import Any
 
 from cophy_lint.checks import catalogue_remarks, lines, workload_remarks
 from cophy_text import files
-from cophy_text.answers import Advice, read_advice, read_candidates
+from cophy_text.answers import Advice, Prices, read_advice, read_candidates
 from cophy_pg import export, folder, inputs, unlimited
 from cophy_pg.advise_words import parser_of
 from cophy_pg.catalogue import read_schema
@@ -107,9 +107,7 @@ class Run:
 
     def document(self) -> dict[str, Any]:
         """Takes the steps in turn."""
-        files_of_steps = (folder.ADVICE, folder.CERTIFICATE, folder.CHECK, folder.VERIFY, folder.KEPT, folder.DDL)
-        self.folder.clear(*files_of_steps, folder.PLANS, folder.SUMMARY, folder.RESULT, folder.REPORT)
-        self.folder.clear(folder.RULES, folder.RULED, folder.CURVE, folder.DETAILS, folder.UNFINISHED, folder.EFFECT)
+        self._clear()
         with self.steps.step("export", "reading the database and its statements"):
             found, workload = self._export()
         with self.steps.step("lint", "looking for what is probably wrong"):
@@ -134,10 +132,8 @@ class Run:
         with self.steps.step("why", "pricing the workload without each pick", len(choice.advice.picks)):
             none, kept, reason = reasons(self.program, choice.advice, self.steps)
             all_ = self.program.whatif(it.number for it in advice.picks)
-        # In a file of SQL a statement has the weight that it was given.
-        warnings = [*self.warnings, *self.rules.remarks, *([] if self.words.sql else ran_once(workload, none))]
-        warnings += [UNPROVED] * is_unproved(self.words.program) + [CUT] * self.searches.is_cut
-        told = {"warnings": warnings, "lint": lint, "rewriting": summary(workload), "rules": listed_in(choice.rules)}
+        told = {"lint": lint, "rewriting": summary(workload), "rules": listed_in(choice.rules)}
+        told |= {"warnings": self._warnings(workload, none)}
         parts = (found.schema, workload, advice, choice, judged, plans, (none, kept, all_), reason, proved)
         self._tell_rest(found.schema, advice, choice, unused)
         self.head["knee"] = knee_of(points, none.total)
@@ -146,11 +142,19 @@ class Run:
         with self.steps.step("recommend", "telling what is plainly worth it"):
             asked = {it.number for it in choice.advice.picks if self.rules.asks_for(it)}
             result.recommended = self._recommended(result, rounds, asked)
-        self._write(result)
-        if points:
-            curve = [as_json_of_point(it, none.total) for it in points]
-            self.folder.write({folder.CURVE: json.dumps(curve, indent=2) + "\n"})
+        self._write(result, points)
         return result.document()
+
+    def _clear(self) -> None:
+        """Takes away what an earlier call left in the folder."""
+        files_of_steps = (folder.ADVICE, folder.CERTIFICATE, folder.CHECK, folder.VERIFY, folder.KEPT, folder.DDL)
+        self.folder.clear(*files_of_steps, folder.PLANS, folder.SUMMARY, folder.RESULT, folder.REPORT)
+        self.folder.clear(folder.RULES, folder.RULED, folder.CURVE, folder.DETAILS, folder.UNFINISHED, folder.EFFECT)
+
+    def _warnings(self, workload: Workload, prices: Prices) -> list[str]:
+        """What to warn of, by prices without picks. In a file of SQL a statement has the weight that it was given."""
+        found = [*self.warnings, *self.rules.remarks, *([] if self.words.sql else ran_once(workload, prices))]
+        return found + [UNPROVED] * is_unproved(self.words.program) + [CUT] * self.searches.is_cut
 
     def _asked(
         self, server: Server, schema: Schema, choice: Choice, verdicts: list[Verdict]
@@ -186,7 +190,7 @@ class Run:
 
     def _recommended(self, result: Result, rounds: Rounds, asked: set[int]) -> Recommended:
         """Which picks stay when those are left out that there are caveats about, and that no rule asks for."""
-        picks, judged, choice = result.plain_picks(), result.judged, result.choice.advice
+        picks, judged, choice = result.ranked, result.judged, result.choice.advice
         caveats = {number: why for number, why in result.caveats().items() if number not in asked}
         all_, whole = (result.prices[1].total, judged.sums()[2]), (result.prices[0].total, judged.sums()[1])
         if not caveats:
@@ -199,8 +203,8 @@ class Run:
         with connected(self.words.dsn, self.words.timeout) as server:
             return without_caveats(picks, caveats, all_, whole, costs_of)
 
-    def _write(self, result: Result) -> None:
-        """Writes what the last steps found."""
+    def _write(self, result: Result, points: list[Advice]) -> None:
+        """Writes what the last steps found, with the points of the curve where there are any."""
         none, kept, _ = result.prices
         picks, order, unadvised = result.choice.advice.picks, result.numbers(), result.places_left_out()
         hints = result.made_hints()
@@ -225,6 +229,9 @@ class Run:
                 ),
             }
         )
+        if points:
+            curve = [as_json_of_point(it, none.total) for it in points]
+            self.folder.write({folder.CURVE: json.dumps(curve, indent=2) + "\n"})
 
     def _export(self) -> tuple[Found, Workload]:
         """Reads the server, and refuses at once what would be refused after the search."""

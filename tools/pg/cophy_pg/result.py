@@ -3,6 +3,7 @@ from __future__ import annotations
 
 from collections import Counter
 from dataclasses import dataclass, field
+from functools import cached_property
 from typing import Any
 
 from cophy_text import VERSION
@@ -59,7 +60,7 @@ class Result:
         """The document."""
         none, kept, all_ = self.prices
         count, before, after = self.judged.sums()
-        picks, hints = self.listed()
+        picks, hints = self.listed
         places = {it["number"]: it["place"] for it in picks}
         owning = {it["owner"] for it in (*picks, *(hint for hint, _ in hints)) if it["place"]}
         return {
@@ -98,7 +99,7 @@ class Result:
     def caveats(self) -> dict[int, str]:
         """Why picks aren't recommended where all are there, by their numbers."""
         statements = [{"seconds": it.input.seconds} for it in self.workload.records]
-        found = {it["number"]: caveat_of(it, {"statements": statements}) for it in self.plain_picks()}
+        found = {it["number"]: caveat_of(it, {"statements": statements}) for it in self.ranked}
         return {number: why for number, why in found.items() if why}
 
     def places_left_out(self) -> list[int]:
@@ -107,7 +108,7 @@ class Result:
 
     def made_hints(self) -> list[Found]:
         """The hints that the script makes."""
-        return [it for it in self.listed()[1] if it[0]["why_not"] is None]
+        return [it for it in self.listed[1] if it[0]["why_not"] is None]
 
     def _caveat(self, number: int) -> str | None:
         return self.recommended.why_not.get(number) if self.recommended else None
@@ -133,24 +134,30 @@ class Result:
 
     def plain_picks(self) -> list[dict[str, Any]]:
         """The picks, those that are recommended first, and of each those that save the most."""
-        return self.listed()[0]
+        return self.listed[0]
 
-    def listed(self) -> tuple[list[dict[str, Any]], list[Found]]:
-        """The picks and the hints, whose places and names are given in the order in which they are made: picks that
-        are recommended, hints, other picks."""
+    @cached_property
+    def ranked(self) -> list[dict[str, Any]]:
+        """The picks, those first that save the most, before it is known which are recommended."""
         outcomes = {it.pick.number: it for it in self.judged.outcomes}
+        return sorted((self._plain(it, outcomes[it.pick.number]) for it in self.reasons), key=place_of)
+
+    @cached_property
+    def listed(self) -> tuple[list[dict[str, Any]], list[Found]]:
+        """The picks and the hints, once it is known which picks are recommended. Places and names are given in the
+        order in which they are made: picks that are recommended, hints, other picks."""
         by_number = {it.pick.number: it.pick for it in self.reasons}
-        picks = sorted((self._plain(it, outcomes[it.pick.number]) for it in self.reasons), key=place_of)
         hints, taken = self._hints(), taken_names(self.schema)
         advised, others = (
-            [it for it in picks if bool(self._caveat(it["number"])) is is_out] for is_out in (False, True)
+            [it for it in self.ranked if bool(self._caveat(it["number"])) is is_out] for is_out in (False, True)
         )
         rows = [(it, by_number[it["number"]]) for it in advised] + [it for it in hints if not it[0]["why_not"]]
         rows += [(it, by_number[it["number"]]) for it in others]
         for place, (it, pick) in enumerate(rows, 1):
             it |= {"place": place} | self._made(pick, taken)
         for it, pick in hints:
-            it |= {"owner": self.owners.get(pick.table)} | ({} if it["place"] else self._made(pick, {*taken}))
+            it |= {"owner": self.owners.get(pick.table), **self._long(pick)}
+            it |= {} if it["place"] else self._made(pick, {*taken})
         return [*advised, *others], hints
 
     def _hints(self) -> list[Found]:
@@ -176,7 +183,12 @@ class Result:
             "unknown_for": [f"{why}: {where}" if where else why for why, where in outcome.reasons.items()],
             "begins": outcome.begins or None,
             "superfluous": [*outcome.superfluous],
+            **self._long(reason.pick),
         }
+
+    def _long(self, pick: Candidate) -> dict[str, Any]:
+        """The columns for whose long values an INSERT may fail, and those that have such by the statistics."""
+        return {"long": exceeding(self.schema, pick), "long_likely": likely(self.schema, pick)}
 
     def _made(self, pick: Candidate, taken: set[str]) -> dict[str, Any]:
         """How a pick or a hint is made, and what there is to say of that."""
@@ -186,8 +198,6 @@ class Result:
             "statements": [*made.statements],
             "build_seconds": round(self._build(made), 3),
             "notes": self._notes(made),
-            "long": exceeding(self.schema, pick),
-            "long_likely": likely(self.schema, pick),
         }
 
     def _build(self, made: Made) -> float:
