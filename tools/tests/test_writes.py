@@ -32,15 +32,27 @@ class Writes(unittest.TestCase):
             reason(5, "v", {1: 200}),
             reason(6, "w", {1: 100, 5: -2}),
         ]
-        found = writes_of(picks, TEXTS, CALLS, {"t": 4, "u": 1, "w": 2})
+        found = writes_of(picks, TEXTS, CALLS, {"t": 4, "u": 1, "w": 2}, {})
         rows = [tuple(it.values()) for it in found]
-        self.assertEqual(rows, [("UPDATE", "t", 80, 1, 2, 4), ("UPDATE", "u", 7, 1, 2, 1), ("UPDATE", "w", 6, 1, 1, 2)])
-        line = "writes: UPDATE of t has 1 index more to keep, UPDATE of u has 1 index more to keep"
-        self.assertEqual(told(found), [line])
+        both = ("INSERT and UPDATE", "t", 150, 2, 2, 4)
+        # An UPDATE that has an index to keep has entries to add to all of its table.
+        self.assertEqual(rows, [both, ("UPDATE", "u", 7, 2, 2, 1), ("UPDATE", "w", 6, 1, 1, 2)])
+        line = "writes: INSERT and UPDATE of t have 2 indexes more to keep (4 to 6)"
+        self.assertEqual(told(found), [f"{line}, UPDATE of u has 2 indexes more to keep (1 to 3)"])
         self.assertEqual(told(found[2:]), ["writes: UPDATE of w has 1 index more to keep (2 to 3)"])
-        self.assertEqual(told(writes_of(picks[2:3], TEXTS, CALLS, {})), [])
-        often = writes_of(picks[:2], TEXTS, CALLS | {2: 90}, {"t": 4})
-        self.assertEqual(told(often), ["writes: INSERT into t has 2 indexes more to keep (4 to 6)"])
+        self.assertEqual(told(writes_of(picks[2:3], TEXTS, CALLS, {}, {})), [])
+        often = writes_of(picks[:1], TEXTS, CALLS, {"t": 4}, {})
+        self.assertEqual(told(often), ["writes: INSERT into t has 1 index more to keep (4 to 5)"])
+
+    def test_an_update_that_sets_an_indexed_column_has_all_indexes_to_keep(self) -> None:
+        texts = ("SELECT a FROM u", 'UPDATE u x\nSET c = ?, "D" = x.c\nWHERE a = 7', "UPDATE v\nSET c = ?")
+        for columns, wanted in (
+            ({"c"}, [("UPDATE", "u", 9, 1, 1, 1)]),
+            ({"d"}, [("UPDATE", "u", 9, 1, 1, 1)]),
+            ({"e"}, []),
+        ):
+            found = writes_of([reason(1, "u", {1: 300})], texts, {1: 8, 2: 9, 3: 7}, {"u": 1}, {"u": columns})
+            self.assertEqual([tuple(it.values()) for it in found], wanted)
 
 
 if __name__ == "__main__":

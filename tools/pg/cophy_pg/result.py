@@ -26,7 +26,7 @@ from cophy_pg.verify import Judged
 from cophy_pg.why import Reason
 from cophy_pg.workload import Record, Workload
 from cophy_pg.worth import worth_of
-from cophy_pg.writes import writes_of
+from cophy_pg.writes import indexed_in, writes_of
 
 VACUUM = (
     "plans read it without its table, which takes pages that VACUUM has marked: where many rows change, VACUUM often, "
@@ -130,7 +130,8 @@ class Result:
         for it in self.workload.records:
             calls.update({at: it.input.calls for at in it.numbers})
         advised = [it for it in self.reasons if not self._caveat(it.pick.number)]
-        return writes_of(advised, [text for text, _ in self.workload.statements], calls, self.indexes)
+        texts = [text for text, _ in self.workload.statements]
+        return writes_of(advised, texts, calls, self.indexes, indexed_in(self.schema))
 
     def plain_picks(self) -> list[dict[str, Any]]:
         """The picks, those that are recommended first, and of each those that save the most."""

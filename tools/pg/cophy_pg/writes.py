@@ -1,15 +1,19 @@
 """Which writes have more indexes to keep."""
 from __future__ import annotations
 
+import re
 from collections.abc import Iterable, Mapping, Sequence
 from typing import Any
 
+from cophy_pg.schema import Schema
 from cophy_pg.server import Server
 from cophy_pg.why import Reason
 
 PLACES = {"INSERT": "into", "UPDATE": "of", "DELETE": "from"}
 MOST_TABLES = 2
 """So many tables are named, those that are written the most often."""
+_UPDATE = re.compile(r'UPDATE "?(\w+)"?[^\n]*\nSET ([^\n]*)', re.IGNORECASE)
+_SET = re.compile(r"(\w+)\"? = ")
 _INDEXES = """
 SELECT indrelid::pg_catalog.int8, pg_catalog.count(*) FROM pg_catalog.pg_index
 WHERE indrelid = ANY(%s::pg_catalog.oid[]) GROUP BY indrelid"""
@@ -20,28 +24,59 @@ def indexes_of(server: Server, tables: Sequence[int]) -> dict[int, int]:
     return {int(oid): int(count) for oid, count in server.rows(_INDEXES, ([*tables],))}
 
 
+def indexed_in(schema: Schema) -> dict[str, set[str]]:
+    """The columns of each table that have indexes, by their names in the catalogue."""
+    found = dict[str, set[str]]()
+    for table in schema.tables.values():
+        keys = {key for it in table.indexes for key in it.keys}
+        found[table.shown] = {table.columns[it].shown if it in table.columns else it for it in keys}
+    return found
+
+
 def writes_of(
-    picks: Iterable[Reason], texts: Sequence[str], calls: Mapping[int, int], before: Mapping[str, int]
+    picks: Iterable[Reason],
+    texts: Sequence[str],
+    calls: Mapping[int, int],
+    before: Mapping[str, int],
+    indexed: Mapping[str, set[str]],
 ) -> list[dict[str, Any]]:
-    """Of each table of the picks the writes that cost more by our model, of the command that runs the most often, the most
-    called first. The texts are those of the workload, `calls` go by their numbers, and `before` has how many indexes a table
-    has."""
+    """Of each table of the picks the writes that have more indexes to keep, the most called first: those that cost
+    more by our model, and each UPDATE that sets an indexed column, since its rows get entries in all indexes. The
+    texts are those of the workload, `calls` go by their numbers, `before` has how many indexes a table has, and
+    `indexed` the columns of these."""
     tables: dict[str, list[Reason]] = {}
     for it in picks:
         tables.setdefault(it.pick.table, []).append(it)
     found = []
     for table, listed in tables.items():
         paying = [{at for at, change in it.changes.items() if change < 0} for it in listed]
-        writes: dict[str, set[int]] = {}
-        for at in sorted(set[int]().union(*paying)):
-            writes.setdefault(texts[at - 1].split(None, 1)[0].upper(), set()).add(at)
-        often = {it: sum(calls.get(at, 0) for at in own) for it, own in writes.items() if it in PLACES}
-        if often:
-            command = max(often, key=lambda it: (often[it], it))
-            own, row = writes[command], {"command": command, "table": table, "calls": often[command]}
-            more = {"kept": sum(bool(it & own) for it in paying), "new": len(listed), "before": before.get(table)}
+        columns = {name.lower() for name in indexed.get(table, set()).union(*(it.pick.columns for it in listed))}
+        moving = {at for at in set[int]().union(*paying) if _command(texts[at - 1]) == "UPDATE"}
+        moving |= {at for at, text in enumerate(texts, 1) if _set_by(text, table) & columns}
+        paying = [it | moving for it in paying]
+        writes = {at: command for at in set[int]().union(*paying) if (command := _command(texts[at - 1])) in PLACES}
+        if writes:
+            commands = [it for it in PLACES if it in writes.values()]
+            row = {"command": _listed(commands), "table": table, "calls": sum(calls.get(it, 0) for it in writes)}
+            more = {"kept": sum(bool(it & {*writes}) for it in paying), "new": len(listed), "before": before.get(table)}
             found.append(row | more)
     return sorted(found, key=lambda it: (-it["calls"], it["table"]))
+
+
+def _command(text: str) -> str:
+    """The first word of a statement."""
+    return text.split(None, 1)[0].upper()
+
+
+def _set_by(text: str, table: str) -> set[str]:
+    """The columns that a statement of a workload sets, where it is an UPDATE of a table, in small letters."""
+    found = _UPDATE.match(text)
+    is_of = found is not None and found[1].lower() == table.lower()
+    return {it.lower() for it in _SET.findall(found[2])} if found is not None and is_of else set()
+
+
+def _listed(commands: list[str]) -> str:
+    return " and ".join([", ".join(commands[:-1]), commands[-1]]) if commands[1:] else commands[0]
 
 
 def told(writes: list[dict[str, Any]]) -> list[str]:
@@ -51,6 +86,7 @@ def told(writes: list[dict[str, Any]]) -> list[str]:
 
 
 def _told(it: dict[str, Any]) -> str:
-    count, before = it["kept"], it["before"]
-    text = f"{it['command']} {PLACES[it['command']]} {it['table']} has {count} index{'es' * (count != 1)} more to keep"
+    count, before, command = it["kept"], it["before"], it["command"]
+    have = "has" if command in PLACES else "have"
+    text = f"{command} {PLACES.get(command, 'of')} {it['table']} {have} {count} index{'es' * (count != 1)} more to keep"
     return text if before is None or count < it["new"] else f"{text} ({before} to {before + count})"
