@@ -83,7 +83,7 @@ class Recommended(unittest.TestCase):
         for part in (
             "1 index to make for shop",
             "<b>50.0 %</b>of the cost before: 9,000, then 4,500",
-            "<b>30.0 %</b>of the cost before: 9,000, then 2,700",
+            "<b>70.0 %</b>of the cost before: 9,000, then 2,700",
             "<b>5.0 MB</b>of 2,048.0 MB",
             "<h3>1. t(b)</h3>",
         ):

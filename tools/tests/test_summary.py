@@ -92,8 +92,8 @@ class Summary(OverDocument):
             lines[0].startswith("4 indexes to make, 10.0 MB of 2,048.0 MB, and 1 not recommended, 2.0 MB: ")
         )
         self.assertEqual(lines.count("   not recommended: it saves 0.4 %"), 1)
-        at = next(at for at, it in enumerate(lines) if it.split() == ["before", "after", "with", "all", "bound"])
-        rows = ["our model 9,000 2,700 30.0 % 1,800 20.0 % 1,800", "the server's 9,000 4,500 50.0 % 1,000 11.1 %"]
+        at = next(at for at, it in enumerate(lines) if it.split() == "before after saved with all saved bound".split())
+        rows = ["our model 9,000 2,700 70.0 % 1,800 80.0 % 1,800", "the server's 9,000 4,500 50.0 % 1,000 88.9 %"]
         self.assertEqual([" ".join(it.split()) for it in lines[at + 1 : at + 3]], rows)
         self.assertIn("; most of the gap with all is t(c): so it is", lines[at + 3])
         self.assertEqual(lines[at + 4], "with all, those not recommended too, 5.0 MB stay free")

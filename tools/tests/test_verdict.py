@@ -12,6 +12,8 @@ class Verdict(OverDocument):
     def test_the_verdict_on_five_picks_is_short_and_says_what_to_do(self) -> None:
         self.five()
         self.document["statements"][1]["seconds"] = 0.1
+        for it in self.document["picks"]:
+            it["saves"]["planned"] = 16.6
         lines = self.verdict()
         self.assertLessEqual(len(" ".join(lines).split()), 180)
         # Of 1.6 s a statement has 1.5, and costs 100 of 900; the other one costs what it did.
@@ -23,7 +25,7 @@ class Verdict(OverDocument):
         self.assertEqual(lines[: lines.index("")], first)
         at = next(at for at, it in enumerate(lines) if it.startswith(" 1."))
         self.assertEqual(lines[at - 1], "        MB     time  index, for")
-        self.assertRegex(lines[at], r" 1\.    0\.2   10\.0 %  t0\(a\) +FROM t WHERE b = '<script>alert\.\.\.")
+        self.assertRegex(lines[at], r" 1\.    0\.2   16\.6 %  t0\(a\) +FROM t WHERE b = '<script>alert\.\.\.")
         self.assertEqual(
             lines[-6:-4],
             ["all else: /home/you/advice/details.txt", "make them (about 37 seconds, reads and writes go on):"],
@@ -40,6 +42,25 @@ class Verdict(OverDocument):
         self.document["recommended"]["picks"], self.document["picks"] = 1, self.document["picks"][:1]
         self.assertEqual(self.verdict()[0], "Make this index: 20.0 MB of the budget of 2,048.0 MB.")
         self.assertTrue(self.verdict()[1].startswith("It saves about 83 % of the 1.6 s measured"))
+
+    def test_an_index_that_takes_much_space_for_little_is_told_and_rows_that_dont_sum(self) -> None:
+        self.five()
+        self.document["statements"][1]["seconds"] = 0.1
+        self.document["recommended"]["stored_pages"] = 128 * 94
+        # All save 83 %; the shared row of those under 1 % has its own words.
+        for shares, size, wanted in (
+            ((40.0, 20.0, 16.0, 2.0, 2.9), 61, ["4 takes 61.0 MB for 2.0 %: psql -v without=4 leaves it out"]),
+            ((40.0, 20.0, 16.0, 2.0, 2.9), 23, []),
+            ((40.0, 20.0, 16.0, 3.0, 2.9), 61, []),
+            ((40.0, 20.0, 22.0, 0.9, 0.9), 61, []),
+            ((30.0, 20.0, 6.0, 5.0, 5.0), 61, ["rows sum to 66 %: each says what is lost without that one alone"]),
+        ):
+            for it, planned in zip(self.document["picks"], shares, strict=True):
+                it["saves"] |= {"planned": planned}
+            self.document["picks"][3]["stored_pages"] = 128 * size
+            lines = self.verdict()
+            found = [it for it in lines if " takes " in it or it.startswith("rows")]
+            self.assertEqual(found, wanted, shares)
 
     def test_indexes_that_save_little_share_a_row(self) -> None:
         self.five()

@@ -84,18 +84,19 @@ def is_all_advised(document: dict[str, Any]) -> bool:
 
 
 def costs(document: dict[str, Any]) -> list[str]:
-    """The table of costs before and after, with all picks where some aren't recommended, and of the bound."""
+    """The table of costs before and after, with what is saved, with all picks where some aren't recommended, and of
+    the bound."""
     ours, server, found = document["cost"], document["server_cost"], recommended_of(document)
     after = [(found["cost"], found["server_cost"])]
     after += [(ours["after"], server["after"])] * (not is_all_advised(document))
     rows = [
-        ["", "before", *["after", "", "with all", ""][: 2 * len(after)], "bound"],
+        ["", "before", *["after", "saved", "with all", "saved"][: 2 * len(after)], "bound"],
         ["our model", grouped(ours["before"] / 1000)],
         ["the server's", grouped(float(server["before"]))],
     ]
     for by_us, by_server in after:
-        rows[1] += [grouped(by_us / 1000), share(by_us, ours["before"])]
-        rows[2] += [grouped(float(by_server)), share(by_server, server["before"])]
+        rows[1] += [grouped(by_us / 1000), share(ours["before"] - by_us, ours["before"])]
+        rows[2] += [grouped(float(by_server)), share(server["before"] - by_server, server["before"])]
     rows[1] += [grouped(ours["bound"] / 1000)]
     rows[2] += [""]
     widths = [max(len(it[at]) for it in rows) for at in range(len(rows[0]))]

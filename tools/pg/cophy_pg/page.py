@@ -14,7 +14,7 @@ from cophy_pg import folder
 from cophy_pg.closing import end_of, is_all_advised, is_hint, pages_of, recommended_of, rows_of
 from cophy_pg.curves import curve_of
 from cophy_pg.folder import Folder
-from cophy_pg.guesses import doubt_of, warning_of
+from cophy_pg.guesses import doubt_of, time_saved, warning_of
 from cophy_pg.hints import ALONE, hints_told
 from cophy_pg.overview import headline, is_seen, name_of, named
 from cophy_pg.plan_text import plan_text
@@ -151,6 +151,7 @@ def _pick(place: int, pick: dict[str, Any], document: dict[str, Any]) -> dict[st
         "outcome": "taken",
         **pick,
         "is_hint": is_hint(pick),
+        "time": time_saved(pick),
         "place": place,
         "index": named(pick),
         "listed": changes,

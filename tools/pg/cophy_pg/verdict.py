@@ -33,6 +33,9 @@ SQL, LONGEST = 34, 40
 """So many characters of a statement are shown, and such a name of an index has others in its column."""
 MOST_WARNINGS = 2
 """Where there are no more warnings, the summary has them, each up to what ends it."""
+MUCH_SPACE, FEW = 0.25, 3
+"""An index that takes more than this part of the space for less than so many percent, and a tenth of what all save, is
+told; so is that rows don't sum to what all save but for so many percent."""
 Row = tuple[int, dict[str, Any]]
 WELL_JUDGED = 0.9
 """Where the statements that were priced have this part of the measured time, that isn't told."""
@@ -47,7 +50,7 @@ def verdict(document: dict[str, Any], kept: Folder) -> list[str]:
     lines += ["", f"{'MB':>10}{head:>9}  index, for"] * bool(advised)
     lines += _rows(advised, document)
     lines += [f"* judged by {ALONE}"] * bool(made_hints(document))
-    lines += ["", *_unadvised(document), *_rest(document, kept)]
+    lines += ["", *_unadvised(document), *_notes(advised, document), *_rest(document, kept)]
     if picks:
         known = [it["build_seconds"] for _, it in advised or picks if it.get("build_seconds") is not None]
         time = f" (about {duration(sum(known))}, reads and writes go on)" if known and not _locks(document) else ""
@@ -79,13 +82,20 @@ def _sentences(document: dict[str, Any], count: int) -> list[str]:
 
 def _saved(document: dict[str, Any]) -> str:
     """What is saved of the measured time where that is known, or else of the cost."""
+    falls = _percent_saved(document)
     if time := time_of(document):
-        falls = time_falls(document)
         about = f"{falls:.0f} %" if falls >= 1 else percent(falls)
         return f"about {about} of {time}, if time falls as the cost by the server's planner does"
+    return f"{percent(falls)} of the cost by the server's planner"
+
+
+def _percent_saved(document: dict[str, Any]) -> float:
+    """What all that is made saves of the measured time, or else of the cost by the server's planner."""
+    if time_of(document):
+        return time_falls(document)
     before, after = document["server_cost"]["before"], recommended_of(document)["server_cost"]
-    hints = sum(it["saves"]["server"] for it in made_hints(document)) / 100 * before
-    return f"{share(before - after + hints, before)} of the cost by the server's planner"
+    hints: float = sum(it["saves"]["server"] for it in made_hints(document))
+    return (100 * (before - after) / before if before else 0.0) + hints
 
 
 def _best(document: dict[str, Any]) -> str:
@@ -108,13 +118,32 @@ def _is_well_judged(document: dict[str, Any]) -> bool:
 def _rows(advised: list[Row], document: dict[str, Any]) -> list[str]:
     """A row for each index, in the order of their numbers, and one for all that save little, where they are
     several."""
-    little = [it for it in advised if saved_of(it[1]) < LITTLE]
-    shown = [it for it in advised if it not in little] if little[1:] else advised
+    shown, little = _apart(advised)
     wide = max((len(named(it)) for _, it in shown if len(named(it)) <= LONGEST), default=0)
     lines = {at: _row(at, it, wide, document) for at, it in shown}
-    if little[1:]:
+    if little:
         lines[little[0][0]] = _together(little)
     return [lines[at] for at in sorted(lines)]
+
+
+def _apart(advised: list[Row]) -> tuple[list[Row], list[Row]]:
+    """The indexes that have rows of their own, and those that share one."""
+    little = [it for it in advised if saved_of(it[1]) < LITTLE]
+    return ([it for it in advised if it not in little], little) if little[1:] else (advised, [])
+
+
+def _notes(advised: list[Row], document: dict[str, Any]) -> list[str]:
+    """The index that takes much of the space for little, and that rows don't sum to what all save, where that is so."""
+    whole, size, lines = _percent_saved(document), pages_of(document), list[str]()
+    little = min(FEW, whole / 10)
+    much = [it for it in _apart(advised)[0] if saved_of(it[1]) < little and it[1]["stored_pages"] > MUCH_SPACE * size]
+    for at, it in much[:1]:
+        what = f"{at} takes {space(it['stored_pages'])} for {percent(saved_of(it))}"
+        lines += [f"{what}: psql -v without={at} leaves it out"]
+    summed = sum(saved_of(it) for _, it in advised)
+    if advised and abs(summed - whole) >= FEW:
+        lines += [f"rows sum to {summed:.0f} %: each says what is lost without that one alone"]
+    return lines
 
 
 def _row(at: int, pick: dict[str, Any], wide: int, document: dict[str, Any]) -> str:
