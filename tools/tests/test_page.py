@@ -235,6 +235,15 @@ class Page(InFolder):
         self.write()
         self.assertIn("It rests on a guess, a range whose end isn", self.page())
 
+    def test_what_an_index_saves_of_the_time_is_the_number_of_the_summary(self) -> None:
+        from cophy_pg.page import page_text
+
+        pick = self.document["picks"][0] | {"clustered": False, "outcome": "taken"}
+        pick["saves"] |= {"planned": 16.6, "measured": 30.0}
+        text = page_text(self.document | {"picks": [pick]}, plans(), None).replace("\N{NO-BREAK SPACE}", " ")
+        self.assertIn("and of the measured time about 16.6 %", text)
+        self.assertNotIn("30.0 %", text)
+
     def test_nothing_in_it_is_code_or_fetched(self) -> None:
         text = self.page()
         self.assertIn("&lt;script&gt;alert(1)&lt;/script&gt;{{ 7 * 7 }}", text)

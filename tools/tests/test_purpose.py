@@ -53,6 +53,23 @@ class Purpose(unittest.TestCase):
         self.assertEqual(self.shown("no SQL FROM nowhere", "ticket(tn)"), "no SQL FROM nowhere")
         self.assertEqual(self.shown(f"{LONG} WHERE tn = $1", "ticket(tn)", 10), "WHERE t...")
 
+    def test_of_one_without_help_that_is_cut_the_conditions_are_shown(self) -> None:
+        from cophy_pg.purpose import filter_of
+
+        for sql, wanted in (
+            ("SELECT 1 FROM t WHERE a = 2", "SELECT 1 FROM t WHERE a = 2"),
+            (f"{LONG} WHERE t.id = $1 AND t.tn LIKE $2", "FROM ticket WHERE tn LIKE $2 AND id = $1"),
+            (f"{LONG}, u WHERE t.id = u.id AND lower(t.tn) = $1", "WHERE lower(tn) = $1 AND t.id = u.id"),
+            (f"{LONG} WHERE t.title = ? AND t.tn LIKE ?", "WHERE t.title = ? AND t.tn LIKE ?"),
+            (f"{LONG} ORDER BY t.tn, t.title, t.id LIMIT 3", "FROM ticket t ORDER BY t.tn, t.title, t.id LIMIT 3"),
+            (
+                f"UPDATE ticket SET title = '{'x' * 60}' WHERE tn = $1 AND (id = 2 OR id = 3)",
+                "WHERE (id = 2 OR id = 3) AND tn = $1",
+            ),
+        ):
+            with self.subTest(sql=sql):
+                self.assertEqual(filter_of(sql, 60), wanted)
+
     def test_a_long_statement_takes_no_time(self) -> None:
         deep = f"{LONG} WHERE {'(tn = 1 AND (id = 2 OR ' * 1900}tn = 3{'))' * 1900}"
         self.assertEqual(self.shown(deep, "ticket(tn)", 30), "FROM ticket t WHERE (tn = 1...")

@@ -4,13 +4,13 @@ from __future__ import annotations
 from typing import Any
 
 from cophy_text.answers import counted
-from cophy_text.shown import grouped, percent, share, short, space
+from cophy_text.shown import SHORT, grouped, percent, share, short, space
 from cophy_pg.choice import ASKED, UNTAKEN
 from cophy_pg.closing import costs, is_hint, last_of, pages_of, recommended_of, rows_of
 from cophy_pg.expression_hints import SAME
 from cophy_pg.guesses import doubt_of, gains, saved_of, seconds_of, time_saved, warning_of
 from cophy_pg.hints import ALONE, hinted, hints_told
-from cophy_pg.purpose import purpose_of
+from cophy_pg.purpose import filter_of, purpose_of
 from cophy_pg.recommended import KINDS, LITTLE
 from cophy_pg.rewrite.parse import without_literals
 from cophy_pg.speed import duration
@@ -22,8 +22,8 @@ MUCH = 20
 """A skipped statement is named that has this part of the whole."""
 UNHELPED, SEEN, SLOW = 10, 1000, 0.005
 """Statements that no index helps are told that have this part of the time together, each this one and so many seconds a call."""
-MOST_NUMBERS, SQL, LONGEST_SQL = 5, 45, 60
-"""So many numbers of statements, and so many characters of one, are shown; of one that is told alone so many."""
+MOST_NUMBERS, SQL = 5, 45
+"""So many numbers of statements, and so many characters of one, are shown."""
 WIDE = 5
 """Of so many columns some are mostly only read."""
 
@@ -43,7 +43,7 @@ def lines_of(document: dict[str, Any]) -> list[str]:
     unknown = [it for it in document["statements"] if it["not_explained"]]
     if unknown:
         lines += [f"{counted(len(unknown), 'statement')} couldn't be explained by the server:"]
-        shown = ((name_of(it), it["not_explained"], short(it["sql"])) for it in unknown[:MOST_CHANGES])
+        shown = ((name_of(it), it["not_explained"], filter_of(it["sql"], SHORT)) for it in unknown[:MOST_CHANGES])
         lines += [f"  {name}: {why}: {sql}" for name, why, sql in shown]
         lines += [f"  and {grouped(len(unknown) - MOST_CHANGES)} more", ""] if unknown[MOST_CHANGES:] else [""]
     return [*lines, *costs(document), *last_of(document)]
@@ -97,7 +97,7 @@ def unhelped(document: dict[str, Any]) -> list[str]:
         return []
     most = max(same, key=lambda it: float(it["seconds"]))
     what = f"no advised index helps statements with {share(time, whole)} of the time, the most of them"
-    return [f"{what}: {short(most['sql'], LONGEST_SQL)}"]
+    return [f"{what}: {filter_of(most['sql'], SHORT)}"]
 
 
 def _skipped(document: dict[str, Any]) -> list[str]:
@@ -106,7 +106,9 @@ def _skipped(document: dict[str, Any]) -> list[str]:
     if not much:
         return []
     whole = sum(it[what] for it in document["statements"])
-    lines = [f"  {share(it[what], whole)}: {it['skipped']}: {short(it['sql'])}" for it in much[:MOST_CHANGES]]
+    lines = [
+        f"  {share(it[what], whole)}: {it['skipped']}: {filter_of(it['sql'], SHORT)}" for it in much[:MOST_CHANGES]
+    ]
     name = "time" if what == "seconds" else "calls"
     return [f"skipped, with much of the {name}, so no index is advised for them:", *lines, ""]
 

@@ -19,6 +19,7 @@ from cophy_pg.hints import ALONE, hints_told
 from cophy_pg.overview import headline, is_seen, name_of, named
 from cophy_pg.plan_text import plan_text
 from cophy_pg.progress import say
+from cophy_pg.purpose import filter_of
 from cophy_pg.rewrite import CHANGES
 from cophy_pg.unlimited import told, warning
 
@@ -87,6 +88,7 @@ def page_text(document: dict[str, Any], plans: dict[str, Any], curve: dict[str, 
         "percent": lambda number: whole(percent(number)),
         "space": lambda pages: whole(space(pages)),
         "whole": whole,
+        "filter": filter_of,
         "short": short,
     }
     return environment.from_string(TEMPLATE.read_text()).render(

@@ -7,6 +7,7 @@ from collections.abc import Iterable
 from typing import Any
 
 from pglast import ast
+from pglast.enums import A_Expr_Kind
 from pglast.parser import ParseError
 from pglast.stream import RawStream
 
@@ -16,7 +17,7 @@ from cophy_pg.rewrite.expressions import nodes_of
 from cophy_pg.rewrite.parse import parsed
 from cophy_pg.schema import plain_name
 
-_FROM = re.compile(r"\bFROM\b", re.IGNORECASE)
+_FROM, _WHERE = (re.compile(rf"\b{it}\b", re.IGNORECASE) for it in ("FROM", "WHERE"))
 CLAUSES = {"sortClause": "ORDER BY", "groupClause": "GROUP BY"}
 MOST_PARSED = 5_000
 """A statement of more characters isn't parsed, since deep ones take time by the square of their length."""
@@ -34,6 +35,37 @@ def purpose_of(sql: str, table: str, columns: Iterable[str], most: int) -> str:
         return short(sql, most)
     found = _FROM.search(sql)
     return short(served or sql[found.start() if found else 0 :], most)
+
+
+def filter_of(sql: str, most: int) -> str:
+    """A statement where it isn't cut; or else its conditions, those first that compare more than a column to a value by
+    `=`, with its table where it reads one alone; or else what begins with its first WHERE or FROM."""
+    whole = short(sql, most)
+    if whole == short(sql, most + 3):
+        return whole
+    try:
+        text = _filter(parsed(sql)) if len(sql) <= MOST_PARSED else ""
+    except (ParseError, RecursionError, ValueError, NotImplementedError):
+        text = ""
+    found = _WHERE.search(sql) or _FROM.search(sql)
+    return short(text or sql[found.start() if found else 0 :], most)
+
+
+def _filter(tree: Any) -> str:
+    """The conditions of the first part of a statement that has some; nothing where none has."""
+    node = next((it for it in nodes_of(tree) if getattr(it, "whereClause", None) is not None), None)
+    if node is None:
+        return ""
+    sources = getattr(node, "fromClause", None) or ()
+    begin = f"FROM {sources[0].relname} " if len(sources) == 1 and isinstance(sources[0], ast.RangeVar) else ""
+    conditions = sorted(joined(node.whereClause), key=_is_plain)
+    return f"{begin}WHERE {' AND '.join(_written(it, len(conditions) > 1) for it in conditions)}"
+
+
+def _is_plain(node: Any) -> bool:
+    """Whether a condition compares a column by `=`."""
+    is_equal = isinstance(node, ast.A_Expr) and node.kind == A_Expr_Kind.AEXPR_OP and node.name[-1].sval == "="
+    return is_equal and isinstance(node.lexpr, ast.ColumnRef)
 
 
 def _served(tree: Any, table: str, columns: set[str]) -> str:
