@@ -31,6 +31,8 @@ RAN = (
         "cophy",
         "EXPLAIN SELECT b FROM thing WHERE a = 5; SELECT b FROM thing WHERE a = 6; SELECT b FROM thing WHERE a = 7",
     ),
+    ("cophy_advisor", "SELECT 1 AS own"),
+    ("cophy", "VACUUM thing"),
     ("cophy", "COPY thing TO '/dev/null'; INSERT INTO thing SELECT g, 'y' FROM generate_series(1, 30) g"),
 )
 
@@ -83,6 +85,7 @@ class Entries(unittest.TestCase):
             "connection received: host=[local]",
             "statement: BEGIN",
             "duration: 3.0 ms",
+            "statement: CALL p()",
         ]
         plain = "".join(
             f"2026-01-01 10:00:00.1 UTC [7] u@d LOG:  {it}\n".replace("\nFROM", "\n\tFROM") for it in messages
@@ -93,6 +96,29 @@ class Entries(unittest.TestCase):
                 found = inputs.from_log(text.encode())
                 self.assertEqual([(it.calls, it.seconds) for it in found], [(2, 0.004), (1, None)])
                 self.assertEqual(found[0].text, "SELECT *\nFROM t WHERE a = 1")
+
+    def test_commands_are_told_from_what_runs_queries(self) -> None:
+        for text in (
+            "VACUUM t",
+            "/* x */ analyze t",
+            "CHECKPOINT",
+            "COMMIT",
+            "SHOW a",
+            "CREATE INDEX ON t (a)",
+            "EXPLAIN SELECT 1",
+        ):
+            self.assertTrue(inputs.is_command(text), text)
+        for text in (
+            "SELECT 1",
+            " (select 1) union select 2",
+            "COPY t FROM STDIN",
+            "-- x\nFETCH c",
+            "CALL p()",
+            "no SQL",
+            "",
+        ):
+            self.assertFalse(inputs.is_command(text), text)
+        self.assertFalse(inputs.is_command("CREATE TABLE u AS SELECT * FROM t"))
 
     def test_roles_of_a_log_are_kept(self) -> None:
         message, roles = "statement: SELECT a FROM t", ("one", "two", "one")
@@ -158,6 +184,9 @@ class OnServer(OverShop):
         # What export asked is no part of it, also where it was counted.
         self.assertNotIn("TABLESAMPLE", text)
         self.assertNotIn("cophy-pg", text)
+        told = Path(report).read_text()
+        self.assertNotIn("AS own", told)
+        self.assertNotIn("VACUUM", told)
 
 
 if __name__ == "__main__":

@@ -63,13 +63,13 @@ class Setup(InFolder):
         other.psql("SELECT counted.pg_stat_statements_reset()", "odd")
         other.psql("SELECT a FROM t WHERE a = 3; SELECT a FROM t WHERE a > 3; SHOW work_mem", "odd")
         # That which began to count anew is counted too.
-        self.assertIn(" and 4 statements are counted. Next:\n", self.call(other, "odd").stdout)
+        self.assertIn(" and 3 statements are counted. Next:\n", self.call(other, "odd").stdout)
         words = ("advise", "--budget", "9MB", "--folder", str(self.folder / "found"), "--no-curve")
         more = {"PGUSER": "cophy_advisor", "COPHY_PROGRAM": str(STAND_IN)}
         ran = called(other, *words, database="odd", **more)
         self.assertEqual(ran.returncode, 0, ran.stderr)
         details = (self.folder / "found" / "details.txt").read_text()
-        self.assertIn(" database 'odd', 2 of 4 statements counted with ", details)
+        self.assertIn(" database 'odd', 2 of 3 statements counted with ", details)
 
     def test_what_it_made_is_taken_back_as_the_page_says(self) -> None:
         other = PrivateServer()

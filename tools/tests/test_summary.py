@@ -61,7 +61,7 @@ class Summary(OverDocument):
         changes[0] |= {"guess": True, "seconds": 0.02}
         changes.insert(1, changes[0] | {"numbers": [7], "guess": False, "seconds": 0.01})
         lines, warned = lines_of(self.document), "   rests on a guess, a range whose end isn't known, and on 0.67 % of"
-        head = "2 of 3 statements with 66.7 % of the 4.5 s measured; advised in 1.2 s"
+        head = "2 of 3 statements with 66.7 % of the 4.5 s measured for queries; advised in 1.2 s"
         self.assertIn(head, lines[0])
         row = r"80\.0 +88\.9 +30\.0  statement 1, 0\.02 s: WHERE b = '<script>.*; also 7; 2 loses\Z"
         head = "        size our model    server      time  % saved; statement, measured time"

@@ -19,7 +19,7 @@ class Verdict(OverDocument):
         # Of 1.6 s a statement has 1.5, and costs 100 of 900; the other one costs what it did.
         first = [
             "Make these 5 indexes: 20.0 MB of the budget of 2,048.0 MB.",
-            "They save about 83 % of the 1.6 s measured, if time falls as the cost by the server's planner does.",
+            "They save about 83 % of the 1.6 s measured for queries, if time falls as the cost by the server's planner does.",
             "No indexes within the budget save more by our model (proved).",
         ]
         self.assertEqual(lines[: lines.index("")], first)
@@ -41,7 +41,7 @@ class Verdict(OverDocument):
         self.assertTrue(self.verdict()[2].startswith("Others within the budget save at most 0.1 % of the cost more by"))
         self.document["recommended"]["picks"], self.document["picks"] = 1, self.document["picks"][:1]
         self.assertEqual(self.verdict()[0], "Make this index: 20.0 MB of the budget of 2,048.0 MB.")
-        self.assertTrue(self.verdict()[1].startswith("It saves about 83 % of the 1.6 s measured"))
+        self.assertTrue(self.verdict()[1].startswith("It saves about 83 % of the 1.6 s measured for queries"))
 
     def test_an_index_that_takes_much_space_for_little_is_told_and_rows_that_dont_sum(self) -> None:
         self.five()
@@ -95,7 +95,7 @@ class Verdict(OverDocument):
         lines = self.verdict()
         # 16 MB of picks and 5 of the hint; a pick that saves 10 % is taken off, and the hint saves 12 %.
         self.assertEqual(lines[0], "Make these 5 indexes: 21.0 MB of the budget of 24.0 MB.")
-        self.assertTrue(lines[1].startswith("They save about 85 % of the 1.6 s measured, if time"), lines[1])
+        self.assertTrue(lines[1].startswith("They save about 85 % of the 1.6 s measured for queries, if time"), lines[1])
         at = next(at for at, it in enumerate(lines) if it.startswith(" 5."))
         self.assertEqual(lines[at], " 5.    5.0 * 12.0 %  t9(lower(a))       WHERE lower(a) = 'a'")
         self.assertTrue(lines[at + 1].startswith("* judged by the server's planner alone: outside our model, "))
@@ -159,7 +159,7 @@ class Verdict(OverDocument):
         for seconds, is_told in ((0.33, False), (0.34, True)):
             self.document["statements"][2:] = [skipped | {"seconds": seconds}]
             lines = self.verdict()
-            self.assertEqual("judged by 2 of 3 statements with 89.8 % of the 3.3 s measured" in lines, is_told, lines)
+            self.assertEqual("judged by 2 of 3 statements with 89.8 % of the 3.3 s measured for queries" in lines, is_told, lines)
 
     def test_what_isnt_recommended_is_counted_and_its_time_is_taken_off(self) -> None:
         self.five()
@@ -175,7 +175,7 @@ class Verdict(OverDocument):
         text = " ".join(lines)
         # 44.4 % but for two that save 10 % each.
         self.assertEqual(lines[0], "Make these 3 indexes: 10.0 MB of the budget of 2,048.0 MB.")
-        self.assertTrue(lines[1].startswith("They save about 24 % of the 3.0 s measured, if"), lines[1])
+        self.assertTrue(lines[1].startswith("They save about 24 % of the 3.0 s measured for queries, if"), lines[1])
         # They cost 2,700 of 9,000 by our model, and no others less than 1,800.
         bound = "Others within the budget save at most 10.0 % of the cost more by our model (proved)."
         self.assertEqual(lines[2], bound)

@@ -123,7 +123,7 @@ def indexes_in(statement: Statement, schema: Schema) -> set[ExpressionIndex]:
             parts = [*_parts(query.fromClause or ())]
             sources = {_name(it): tables[key] for it in parts if (key := _key(it)) in tables}
             conditions = [query.whereClause, *(it.quals for it in parts if isinstance(it, ast.JoinExpr))]
-            compared = [side for it in conditions for one in joined(it) for side in _sides(one)]
+            compared = [side for it in conditions for one in joined(it) for side in sides(one)]
             found |= {it for side, other in compared if (it := _index_of(side, other, sources)) is not None}
     return found
 
@@ -156,7 +156,7 @@ def joined(node: Any) -> Iterator[Any]:
         yield node
 
 
-def _sides(node: Any) -> list[tuple[Any, Any]]:
+def sides(node: Any) -> list[tuple[Any, Any]]:
     """What a condition compares, each with its other side."""
     if not isinstance(node, ast.A_Expr) or node.name[-1].sval != "=":
         return []

@@ -9,18 +9,19 @@ from collections.abc import Callable, Iterator
 from contextlib import suppress
 from dataclasses import dataclass
 
+from pglast import ast
 from pglast.parser import ParseError
 
 from cophy_text.tokens import tokens
 from cophy_pg.paths import path_set_by, read_paths
 from cophy_pg.pieces import pieces
 from cophy_pg.progress import say
-from cophy_pg.rewrite.parse import fingerprint_of
+from cophy_pg.rewrite.parse import fingerprint_of, parsed
 from cophy_pg.server import OWN, Row, Server, ServerFault, quoted_name, version_of
 from cophy_pg.speed import duration
 from cophy_pg.trust import DISTRUST, WHO, has_power, view_of
 
-EXTENSION = "pg_stat_statements"
+EXTENSION, ADVISOR = "pg_stat_statements", "cophy_advisor"
 SHORT = 3600
 """The seconds that counting should have taken at least."""
 
@@ -49,7 +50,8 @@ class Input:
 
 
 def from_server(server: Server, warn: Callable[[str], None] = say, is_trusted: bool = False) -> list[Input]:
-    """The statements of pg_stat_statements in the connected database, the longest time first."""
+    """The statements of pg_stat_statements in the connected database, the longest time first, but for those of our own
+    role and for commands."""
     found = view_of(server, EXTENSION)
     if found is None:
         raise NoInput(
@@ -77,8 +79,8 @@ def from_server(server: Server, warn: Callable[[str], None] = say, is_trusted: b
     paths = read_paths(server)
     inputs: dict[tuple[str, tuple[str, ...]], Input] = {}
     for text, role, calls, seconds, count in rows:
-        shown = within(str(text), float(count) > 0, has_numbers) if text is not None else None
-        if shown is not None:
+        shown = within(str(text), float(count) > 0, has_numbers) if text is not None and role != ADVISOR else None
+        if shown is not None and not is_command(shown):
             path = paths.of(str(role or ""))
             it = inputs.setdefault((shown, path), Input(shown, 0, 0.0, 0.0, role=str(role or ""), path=path))
             it.calls += max(1, int(calls))
@@ -145,6 +147,27 @@ def within(text: str, gave_rows: bool, has_numbers: bool) -> str | None:
     return None if found["sql"].startswith(OWN) else found["sql"]
 
 
+_QUERY = re.compile(r"[\s(]*(?:SELECT|INSERT|UPDATE|DELETE|WITH|MERGE|VALUES|TABLE)\b", re.IGNORECASE)
+_RUNNING = (
+    *(ast.SelectStmt, ast.InsertStmt, ast.UpdateStmt, ast.DeleteStmt, ast.MergeStmt, ast.CopyStmt),
+    *(ast.DeclareCursorStmt, ast.FetchStmt, ast.PrepareStmt, ast.ExecuteStmt, ast.CallStmt, ast.DoStmt),
+    *(ast.CreateTableAsStmt, ast.RefreshMatViewStmt),
+)
+"""What runs queries, be it within."""
+
+
+def is_command(text: str) -> bool:
+    """Whether a text runs no query, such as VACUUM, COMMIT or CREATE INDEX, so that its time is none that indexes
+    could save."""
+    if _QUERY.match(text):
+        return False
+    try:
+        trees = parsed(text)
+    except (ParseError, RecursionError, ValueError):
+        return False
+    return bool(trees) and not any(isinstance(it.stmt, _RUNNING) for it in trees)
+
+
 def look_up(server: Server, listed: list[Input]) -> None:
     """Gives inputs whose role is known that role's path."""
     roles = {it.role for it in listed if it.role}
@@ -197,7 +220,7 @@ def from_log(content: bytes) -> list[Input]:
         if found is None or found["part"]:
             continue
         sql, seconds = found["sql"].strip(), float(found["ms"]) / 1000 if found["ms"] else None
-        if sql.startswith(OWN):
+        if sql.startswith(OWN) or role == ADVISOR or is_command(sql):
             continue
         try:
             form = fingerprint_of(sql)

@@ -200,9 +200,10 @@ def part_of(document: dict[str, Any]) -> str:
 
 
 def time_of(document: dict[str, Any]) -> str:
-    """The measured time of all statements in words; nothing where it isn't known."""
+    """The measured time of all statements in words, which commands such as VACUUM are no part of; nothing where it
+    isn't known."""
     whole = seconds_of(document["statements"])
-    return f"the {_seconds(whole)} measured" if whole else ""
+    return f"the {_seconds(whole)} measured for queries" if whole else ""
 
 
 def measured(document: dict[str, Any]) -> str:

@@ -7,12 +7,11 @@ from collections.abc import Iterable
 from typing import Any
 
 from pglast import ast
-from pglast.enums import A_Expr_Kind
 from pglast.parser import ParseError
 from pglast.stream import RawStream
 
 from cophy_text.shown import short
-from cophy_pg.expression_hints import joined
+from cophy_pg.expression_hints import joined, sides
 from cophy_pg.rewrite.expressions import nodes_of
 from cophy_pg.rewrite.parse import parsed
 from cophy_pg.schema import plain_name
@@ -56,7 +55,7 @@ def _filter(tree: Any) -> str:
     node = next((it for it in nodes_of(tree) if getattr(it, "whereClause", None) is not None), None)
     if node is None:
         return ""
-    sources = getattr(node, "fromClause", None) or ()
+    sources = [*(getattr(node, "fromClause", None) or [])]
     begin = f"FROM {sources[0].relname} " if len(sources) == 1 and isinstance(sources[0], ast.RangeVar) else ""
     conditions = sorted(joined(node.whereClause), key=_is_plain)
     return f"{begin}WHERE {' AND '.join(_written(it, len(conditions) > 1) for it in conditions)}"
@@ -64,8 +63,7 @@ def _filter(tree: Any) -> str:
 
 def _is_plain(node: Any) -> bool:
     """Whether a condition compares a column by `=`."""
-    is_equal = isinstance(node, ast.A_Expr) and node.kind == A_Expr_Kind.AEXPR_OP and node.name[-1].sval == "="
-    return is_equal and isinstance(node.lexpr, ast.ColumnRef)
+    return any(isinstance(side, ast.ColumnRef) for side, _ in sides(node)[:1])
 
 
 def _served(tree: Any, table: str, columns: set[str]) -> str:

@@ -20,11 +20,10 @@ from cophy_text.answers import counted
 from cophy_pg.no_connection import failed
 from cophy_pg.picks import home_of
 from cophy_pg.export import HIDDEN
-from cophy_pg.inputs import NoInput, from_server, tell_short
+from cophy_pg.inputs import ADVISOR as ROLE, NoInput, from_server, tell_short
 from cophy_pg.progress import say
 from cophy_pg.server import OWN, UNKNOWN, Server, ServerFault, connected, reading, reason
 
-ROLE = "cophy_advisor"
 SCRIPT = Path(__file__).resolve().parent / "advisor_role.sql"
 ROUNDS = 4096
 LOCAL = ("localhost", "127.0.0.1", "::1")

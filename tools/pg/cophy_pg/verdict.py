@@ -94,8 +94,8 @@ def _percent_saved(document: dict[str, Any]) -> float:
     if time_of(document):
         return time_falls(document)
     before, after = document["server_cost"]["before"], recommended_of(document)["server_cost"]
-    hints: float = sum(it["saves"]["server"] for it in made_hints(document))
-    return (100 * (before - after) / before if before else 0.0) + hints
+    picks: float = 100 * (before - after) / before if before else 0.0
+    return picks + float(sum(it["saves"]["server"] for it in made_hints(document)))
 
 
 def _best(document: dict[str, Any]) -> str:
