@@ -278,6 +278,25 @@ class Advised(OverOwn):
         if HAS_JINJA:
             self.assertIn(INDEX, unescape(self.told("report.html")))
 
+    def test_a_pick_that_a_limit_walks_along_hides_no_hint(self) -> None:
+        rules, own = (
+            self.folder / "own.rules",
+            "SELECT * FROM customer_user WHERE lower(login) = $1 ORDER BY email LIMIT 5;",
+        )
+        rules.write_text("must customer_user(email)\n")
+        (self.folder / "queries.sql").write_text(own)
+        words = ("--sql", str(self.folder / "queries.sql"), "--rules", str(rules))
+        found = self.advise(*words)
+        (pick,), (hint,) = found["picks"], found["hints"]
+        self.assertEqual((pick["columns"], hint["columns"]), (["email"], ["lower(login)"]))
+        self.assertEqual((pick["saves"]["server"], hint["why_not"]), (0.0, None))
+        self.assertGreater(hint["saves"]["server"], 50)
+        self.assertEqual(found["server_cost"]["before"], found["server_cost"]["after"])
+        note = (
+            "   statement 1 would walk along it in the order of LIMIT, until lower() or upper() of a column matches: "
+        )
+        self.assertIn(note, self.told("details.txt"))
+
     def test_the_script_makes_it_counts_its_values_and_takes_it_back(self) -> None:
         self.advise(*self.sql())
         script = self.told("indexes.sql")

@@ -51,6 +51,7 @@ from cophy_pg.steps import Steps
 from cophy_pg.trust import database_owner, owners_of, refuse_powers
 from cophy_pg.verdict import verdict
 from cophy_pg.verify import advice_text, as_json, look_up
+from cophy_pg.walks import take_back
 from cophy_pg.why import reasons
 from cophy_pg.workload import Workload, made
 from cophy_pg.writes import indexes_of
@@ -163,8 +164,9 @@ class Run:
         who owns the tables of both."""
         with self.steps.step("plans", "comparing plans", 2 * len(verdicts)):
             plans = plans_of(server, schema, choice.advice, verdicts, self.steps)
+            take_back(plans, verdicts)
         with self.steps.step("hints", "looking for indexes that our model doesn't know"):
-            every = hints_of(server, schema, choice.advice, verdicts, self.steps)
+            every = hints_of(server, schema, choice.advice, verdicts, self.steps, plans.walked)
         hints = [it for it in every if not self.rules.leave_out(it.index.pick(), self.head["long_columns"])]
         tables = {it.table for it in choice.advice.picks} | {it.index.table.shown for it in hints}
         self._tell_owners(server, schema, tables)
@@ -190,7 +192,7 @@ class Run:
 
     def _recommended(self, result: Result, rounds: Rounds, asked: set[int]) -> Recommended:
         """Which picks stay when those are left out that there are caveats about, and that no rule asks for."""
-        picks, judged, choice = result.ranked, result.judged, result.choice.advice
+        picks, judged, choice, doubted = result.ranked, result.judged, result.choice.advice, result.plans.doubted
         caveats = {number: why for number, why in result.caveats().items() if number not in asked}
         all_, whole = (result.prices[1].total, judged.sums()[2]), (result.prices[0].total, judged.sums()[1])
         if not caveats:
@@ -198,7 +200,8 @@ class Run:
 
         def costs_of(kept: list[int]) -> Costs:
             advice = replace(choice, picks=[it for it in choice.picks if it.number in kept])
-            return self.program.whatif(kept).total, rounds.asked(server, advice, judged.verdicts).sums()[2]
+            by_server = rounds.asked(server, advice, judged.verdicts).sums()[2]
+            return self.program.whatif(kept).total, by_server + sum(doubted.get(it, 0.0) for it in kept)
 
         with connected(self.words.dsn, self.words.timeout) as server:
             return without_caveats(picks, caveats, all_, whole, costs_of)

@@ -2,8 +2,9 @@
 for statements that the picks don't help. They are no part of the program's advice or of its proof."""
 from __future__ import annotations
 
-from collections.abc import Iterable, Iterator
-from dataclasses import dataclass
+from collections.abc import Iterable, Iterator, Mapping
+from dataclasses import dataclass, replace
+from types import MappingProxyType
 from typing import Any, NamedTuple
 
 from pglast import ast
@@ -55,15 +56,27 @@ class Hint:
     users: list[tuple[Verdict, float]]
 
 
-def hints_of(server: Server, schema: Schema, advice: Advice, found: list[Verdict], progress: Progress) -> list[Hint]:
-    """The hints for statements that were explained before, those with the most time first; none where the server refuses."""
+def hints_of(
+    server: Server,
+    schema: Schema,
+    advice: Advice,
+    found: list[Verdict],
+    progress: Progress,
+    walked: Mapping[int, set[int]] = MappingProxyType({}),
+) -> list[Hint]:
+    """The hints for statements that were explained before, those with the most time first; none where the server refuses.
+    Picks that statements only walk along are taken for not there."""
     hints: list[Hint] = []
     compared = [*_compared(schema, found).items()]
     try:
         for index, users in sorted(compared, key=lambda it: -_time(it[1], found))[:MOST]:
             progress(f"asking about {index.pick().shown()}")
             with reading(server, "READ COMMITTED"):
-                hint = Hint(index, [*_helped(server, schema, advice, index, users, progress)])
+                numbers = {user.number for user in users}
+                others = replace(
+                    advice, picks=[it for it in advice.picks if not numbers & walked.get(it.number, set())]
+                )
+                hint = Hint(index, [*_helped(server, schema, others, index, users, progress)])
             hints += [hint] * bool(hint.users)
     except ServerFault as fault:
         say(f"indexes over functions weren't asked about: {fault.shown()}")

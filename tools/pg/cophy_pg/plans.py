@@ -30,14 +30,18 @@ class Plan(NamedTuple):
 @dataclass
 class Plans:
     """Plans by the numbers of their verdicts, and for each pick, by its number, what the statements that take it cost
-    without it. `shown` has the picks by the names of their indexes in plans, and `alone` those that plans read without their
-    tables."""
+    without it. `made` and `shown` have the picks by the names of their indexes in plans, and `alone` those that plans read
+    without their tables. `walked` has the statements that walk along a pick in the order of a LIMIT, and `doubted` what
+    all their calls are said to save by that, which isn't counted."""
 
     before: dict[int, Any] = field(default_factory=dict)
     after: dict[int, Any] = field(default_factory=dict)
     without: dict[int, dict[int, float]] = field(default_factory=dict)
     shown: dict[str, str] = field(default_factory=dict)
     alone: set[int] = field(default_factory=set)
+    made: dict[str, int] = field(default_factory=dict)
+    walked: dict[int, set[int]] = field(default_factory=dict)
+    doubted: dict[int, float] = field(default_factory=dict)
 
     def saved(self, pick: int, verdict: Verdict) -> float:
         """What one call saves by a pick, where all others are there."""
@@ -62,7 +66,7 @@ def plans_of(server: Server, schema: Schema, advice: Advice, found: list[Verdict
         home_of(server)
         plans.before = each_plan(explainer, known, progress)
         _, made = make(server, schema, advice)
-        plans.shown = {name: _shown(advice, number) for name, number in made.items()}
+        plans.made, plans.shown = made, {name: _shown(advice, number) for name, number in made.items()}
         plans.after = each_plan(explainer, known, progress)
         scans = {it for plan in plans.after.values() for it in scans_of(plan) if it[0] in made}
         plans.alone = {made[it] for it, _ in scans} - {made[it] for it, kind in scans if kind != ALONE}

@@ -23,6 +23,7 @@ from cophy_pg.sizes import stored_size
 from cophy_pg.speed import Speed
 from cophy_pg.unlimited import exceeding, likely
 from cophy_pg.verify import Judged
+from cophy_pg.walks import walks_told
 from cophy_pg.why import Reason
 from cophy_pg.workload import Record, Workload
 from cophy_pg.worth import worth_of
@@ -209,7 +210,9 @@ class Result:
         """What a pick asks of others, and how the server was asked about a clustered one."""
         if made.laid is not None:
             return [*Speed().told(self.schema.tables[made.where], len(made.indexes)), ORDINARY]
-        return [VACUUM] * (made.pick.number in self.plans.alone)
+        walking = [self.workload.records[at - 1].numbers for at in sorted(self.plans.walked.get(made.pick.number, ()))]
+        notes = [walks_told([number for numbers in walking for number in numbers])] * bool(walking)
+        return notes + [VACUUM] * (made.pick.number in self.plans.alone)
 
     def _saves(self, reason: Reason) -> dict[str, float | None]:
         """What the workload would cost more without a pick, in percent of what it costs without any, and what of the measured
