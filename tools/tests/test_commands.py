@@ -21,7 +21,7 @@ from patience import LONG
 MISSING = NO_HYPOPG or ("" if importlib.util.find_spec("jinja2") else "python3-jinja2 isn't installed")
 BLOCK = re.compile(r"^```([^\n]*)\n(.*?)^```$", re.MULTILINE | re.DOTALL)
 COMMAND = re.compile(
-    r"(?:\./cophy|cophy-[a-z]+|(?:tools|bench)/|apt|service|su|useradd|psql|export|rt|pip|python3|make)\b"
+    r"(?:\./cophy|cophy-[a-z]+|(?:tools|bench)/|apt|cd|sudo|service|su|useradd|psql|export|rt|pip|python3|make)\b"
 )
 STATEMENTS = """SELECT id, name FROM customer WHERE city = 'City 3';
 SELECT id FROM sales.orders WHERE total = 17.75 ORDER BY id;
