@@ -296,6 +296,9 @@ class Advised(OverOwn):
             "   statement 1 would walk along it in the order of LIMIT, until lower() or upper() of a column matches: "
         )
         self.assertIn(note, self.told("details.txt"))
+        # Where no rule asks for it, it isn't recommended.
+        (pick,) = self.advise(*words[:2])["picks"]
+        self.assertEqual((pick["columns"], pick["caveat"][:22]), (["email"], "the server saves 0.0 %"))
 
     def test_the_script_makes_it_counts_its_values_and_takes_it_back(self) -> None:
         self.advise(*self.sql())

@@ -95,7 +95,9 @@ class Verdict(OverDocument):
         lines = self.verdict()
         # 16 MB of picks and 5 of the hint; a pick that saves 10 % is taken off, and the hint saves 12 %.
         self.assertEqual(lines[0], "Make these 5 indexes: 21.0 MB of the budget of 24.0 MB.")
-        self.assertTrue(lines[1].startswith("They save about 85 % of the 1.6 s measured for queries, if time"), lines[1])
+        self.assertTrue(
+            lines[1].startswith("They save about 85 % of the 1.6 s measured for queries, if time"), lines[1]
+        )
         at = next(at for at, it in enumerate(lines) if it.startswith(" 5."))
         self.assertEqual(lines[at], " 5.    5.0 * 12.0 %  t9(lower(a))       WHERE lower(a) = 'a'")
         self.assertTrue(lines[at + 1].startswith("* judged by the server's planner alone: outside our model, "))
@@ -159,7 +161,9 @@ class Verdict(OverDocument):
         for seconds, is_told in ((0.33, False), (0.34, True)):
             self.document["statements"][2:] = [skipped | {"seconds": seconds}]
             lines = self.verdict()
-            self.assertEqual("judged by 2 of 3 statements with 89.8 % of the 3.3 s measured for queries" in lines, is_told, lines)
+            self.assertEqual(
+                "judged by 2 of 3 statements with 89.8 % of the 3.3 s measured for queries" in lines, is_told, lines
+            )
 
     def test_what_isnt_recommended_is_counted_and_its_time_is_taken_off(self) -> None:
         self.five()
