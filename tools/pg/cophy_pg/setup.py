@@ -20,7 +20,7 @@ from cophy_text.answers import counted
 from cophy_pg.no_connection import failed
 from cophy_pg.picks import home_of
 from cophy_pg.export import HIDDEN
-from cophy_pg.inputs import ADVISOR as ROLE, NoInput, from_server, tell_short
+from cophy_pg.inputs import ADVISOR, NoInput, from_server, tell_short
 from cophy_pg.progress import say
 from cophy_pg.server import OWN, UNKNOWN, Server, ServerFault, connected, reading, reason
 
@@ -62,10 +62,10 @@ def setup(words: argparse.Namespace) -> int:
     superuser = shlex.split(words.psql) if words.psql else _superuser(host, port)
     kept = {it: value for it, value in os.environ.items() if not it.startswith("PG") or words.psql and it != "PGUSER"}
     _run([*superuser, "-d", database], kept, files.read(str(SCRIPT)).decode())
-    os.environ |= {"PGHOST": host, "PGPORT": port, "PGDATABASE": database, "PGUSER": ROLE}
+    os.environ |= {"PGHOST": host, "PGPORT": port, "PGDATABASE": database, "PGUSER": ADVISOR}
     if not _is_known():
         secret = secrets.token_urlsafe(24)
-        _run([*superuser, "-d", database], kept, f"{OWN} ALTER ROLE {ROLE} PASSWORD '{verifier_of(secret)}';")
+        _run([*superuser, "-d", database], kept, f"{OWN} ALTER ROLE {ADVISOR} PASSWORD '{verifier_of(secret)}';")
         _keep(host, port, secret)
     with connected() as server, reading(server):
         return _tell(server, database, host, port)
@@ -117,11 +117,11 @@ def _keep(host: str, port: str, secret: str) -> None:
     """Puts the password before the other lines of the file of passwords, in the place of the one before."""
     name = os.environ.get("PGPASSFILE") or os.path.expanduser("~/.pgpass")
     place = ":".join(it.replace("\\", "\\\\").replace(":", "\\:") for it in (host, port))
-    begin = f"{place}:*:{ROLE}:"
+    begin = f"{place}:*:{ADVISOR}:"
     lines = files.read(name).decode(errors="surrogateescape").splitlines() if os.path.lexists(name) else []
     text = "\n".join([begin + secret, *(it for it in lines if not it.startswith(begin))]) + "\n"
     files.write([files.File(name, text.encode(errors="surrogateescape"))])
-    say(f"the password of {ROLE} is new, and stands in {files.shown(name)}")
+    say(f"the password of {ADVISOR} is new, and stands in {files.shown(name)}")
 
 
 def _tell(server: Server, database: str, host: str, port: str) -> int:
@@ -134,8 +134,8 @@ def _tell(server: Server, database: str, host: str, port: str) -> int:
         return 1
     tell_short(server)
     many = f"{counted(count, 'statement')} {'is' if count == 1 else 'are'} counted"
-    print(f"{ROLE} may read {database!a}, where hypopg is in schema {home!a} and {many}. Next:")
-    names = {"PGHOST": host, "PGPORT": port if port != "5432" else "", "PGDATABASE": database, "PGUSER": ROLE}
+    print(f"{ADVISOR} may read {database!a}, where hypopg is in schema {home!a} and {many}. Next:")
+    names = {"PGHOST": host, "PGPORT": port if port != "5432" else "", "PGDATABASE": database, "PGUSER": ADVISOR}
     print("export " + " ".join(f"{name}={shlex.quote(it)}" for name, it in names.items() if it))
     print(f"{shlex.quote(_called())} advise --budget {fifth_of(int(server.value(_SIZE)))}")
     return 0
