@@ -10,8 +10,7 @@ _STATE = """SELECT count(*) FILTER (WHERE NOT is_it) > 0 AS is_other, count(*) F
     count(*) FILTER (WHERE is_it AND (NOT is_valid OR mark = :'mark')) > 0 AS is_own
 FROM (
     SELECT i.indisvalid AND i.indisready AS is_valid, obj_description(c.oid, 'pg_class') AS mark,
-        coalesce((m.nspname,t.relname)=($1,$3) AND i.indisvalid>=i.indisunique AND i.indpred IS NULL
-        AND 'btree'=(SELECT amname FROM pg_am WHERE oid=c.relam)
+        coalesce((m.nspname,t.relname,c.relam)=($1,$3,403) AND i.indisvalid>=i.indisunique AND i.indpred IS NULL
         AND 0=(SELECT count(*) FROM pg_stat_progress_create_index WHERE index_relid=c.oid) AND $4=ARRAY(
         SELECT coalesce(a.attname::text,regexp_replace(pg_get_indexdef(c.oid,k.at::int4,true),'::text[)]$',')'))
         FROM unnest(i.indkey::int2[]) WITH ORDINALITY k(number, at)
@@ -20,8 +19,8 @@ FROM (
     LEFT JOIN pg_class t ON t.oid = i.indrelid LEFT JOIN pg_namespace m ON m.oid = t.relnamespace
     WHERE (n.nspname,c.relname)=($1,$2)) found"""
 """Whether an index is there, and as what: its schema, its name, its table and its columns, or its function of one,
-which PostgreSQL shows with a cast to text, are the parameters. Another are a partial one, one that is no B-tree,
-what another session is making, and one that was to be unique and is INVALID, which no script leaves."""
+which PostgreSQL shows with a cast to text, are the parameters. Another are a partial one, one that is no B-tree (that
+is 403 on each server), what another session is making, and one that was to be unique and is INVALID, which no script leaves."""
 BEGIN = f"""\\set QUIET on
 \\set ON_ERROR_STOP on
 \\set AUTOCOMMIT on
