@@ -104,9 +104,21 @@ CHANGES = (
 OF_CLUSTERS = (
     Change(
         "what a branch on a group promises, in the search",
-        FINDING,
-        "const WORTH: f64 = 24.0;",
-        "const WORTH: f64 = 0.0;",
+        "relaxations/src/branching.rt",
+        "self.worth * rise",
+        "0.0 * rise",
+    ),
+    Change(
+        "other rules where a search is long",
+        "relaxations/src/branching.rt",
+        "        visits: 300,",
+        "        visits: MOST_NODES,",
+    ),
+    Change(
+        "other rules where a plan is left open",
+        "relaxations/src/proposals.rt",
+        "if !self.planner.has_open || !self.may_differ() {",
+        "if true {",
     ),
     Change(
         "members of groups first in the plan",
