@@ -17,8 +17,12 @@ use bip_model::{Fix, Multipliers, Programme, State};
 use interior_point::{Matrix, at};
 use std::alloc::Global;
 
-/// Sets are asked so often at most before there is a search.
-const MOST_ASKED: u64 = 20_000;
+/// Sets are asked so often at most for each node of the last tree before there is a search, and so often in all.
+const ASKED_A_NODE: u64 = 60;
+
+const LEAST_ASKED: u64 = 20_000;
+
+const MOST_ASKED: u64 = 80_000;
 /// The most of a cost that is looked at, 2^100.
 pub(crate) const MOST_COST: u128 = 1_267_650_600_228_229_401_496_703_205_376;
 
@@ -174,8 +178,9 @@ impl Proposals {
 
     /// Plans from the cheapest configuration that is known on, without a search; whether it is shown that nothing is cheaper.
     fn find_again(&mut self) -> bool {
+        let asked = (self.tree.len() as u64).saturating_mul(ASKED_A_NODE);
         let task = Task {
-            most_asked: MOST_ASKED,
+            most_asked: asked.max(LEAST_ASKED).min(MOST_ASKED),
             is_brief: true,
             rounds: true,
             ..task_of(&self.matrix, &self.limits)
