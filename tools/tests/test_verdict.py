@@ -19,7 +19,7 @@ class Verdict(OverDocument):
         # Of 1.6 s a statement has 1.5, and costs 100 of 900; the other one costs what it did.
         first = [
             "Make these 5 indexes: 20.0 MB of the budget of 2,048.0 MB.",
-            "They save about 83 % of the 1.6 s measured for queries, if time falls as the cost by the server's planner does.",
+            "They save about 83 % of the 1.6 s measured for queries, if time falls as the planner's cost does.",
             "No indexes within the budget save more by our model (proved).",
         ]
         self.assertEqual(lines[: lines.index("")], first)

@@ -85,7 +85,7 @@ def _saved(document: dict[str, Any]) -> str:
     falls = _percent_saved(document)
     if time := time_of(document):
         about = f"{falls:.0f} %" if falls >= 1 else percent(falls)
-        return f"about {about} of {time}, if time falls as the cost by the server's planner does"
+        return f"about {about} of {time}, if time falls as the planner's cost does"
     return f"{percent(falls)} of the cost by the server's planner"
 
 
