@@ -142,7 +142,8 @@ pub(crate) fn propose(
         task.most,
     );
     let known = taken(task, task.bare, found);
-    proposed.plan(known.cost);
+    let planned = proposed.plan(known.cost);
+    let known = taken(task, known, planned);
     keep_first(task, proposed, first, spare, sets);
     keep_others(task, proposed, others, sets);
     known

@@ -14,7 +14,7 @@ fn first_clustered(shapes: &[IndexShape], table: u16) -> usize {
     usize::MAX
 }
 
-/// The group of each candidate, by the first of it, from 1; 0 where it is in none.
+/// The group of each candidate, by the first of it, from 1; 0 where nothing clashes with it.
 pub(crate) fn groups_of(shapes: &[IndexShape]) -> [u8; 256] {
     let mut groups = [0; 256];
     for (group, shape) in groups.iter_mut().zip(shapes) {
@@ -22,6 +22,16 @@ pub(crate) fn groups_of(shapes: &[IndexShape]) -> [u8; 256] {
             let first = first_clustered(shapes, shape.table);
             // What comes last is alone.
             *group = if first < 255 { first as u8 + 1 } else { 0 };
+        }
+    }
+    let mut counts = [0u16; 256];
+    for group in groups {
+        let count = counts[group as usize];
+        counts[group as usize] = count.saturating_add(1);
+    }
+    for group in groups.iter_mut() {
+        if counts[*group as usize] < 2 {
+            *group = 0;
         }
     }
     groups

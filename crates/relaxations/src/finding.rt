@@ -1,6 +1,6 @@
 //! The search for the cheapest configuration: best bound first, over linear relaxations, with fixings and roundings.
 
-use crate::branching::{RULES, Rule};
+use crate::branching::RULES;
 use crate::clashing::{GroupShares, leave_out_clashing, pages, sides};
 use crate::configuration::{Chosen, Incumbent};
 use crate::rounding::{Rounding, Shared, view_node};
@@ -46,7 +46,8 @@ pub(crate) struct Finder {
     own_rents: Vec<f64>,
     shares: [f64; 256],
     root_bound: f64,
-    rule: Rule,
+    /// By how many of the rules there were searches, the last of which is the one whose tree stands.
+    pub tried: usize,
 }
 
 impl Finder {
@@ -67,7 +68,7 @@ impl Finder {
             },
             shares: [0.0; 256],
             root_bound: 0.0,
-            rule: RULES[0],
+            tried: 0,
         })
     }
 
@@ -207,8 +208,8 @@ impl Finder {
         let rises = self.losses.best_rises(&self.view, &self.lagrangian, number);
         let inside = shares.inside(group, rises.inside.max(0.0), rises.outside);
         let missing = (self.target() - self.lagrangian.value).max(1.0);
-        self.rule
-            .pages(inside, rises.outside, missing, self.lagrangian.page)
+        let rule = at(&RULES, self.tried.saturating_sub(1), RULES[0]);
+        rule.pages(inside, rises.outside, missing, self.lagrangian.page)
     }
 
     /// The candidate of the view, by its number there, on which to branch: the one with the most pages in doubt.
@@ -292,6 +293,7 @@ impl Finder {
         }
         self.tree.begin(root);
         self.root_bound = f64::NEG_INFINITY;
+        self.tried = 0;
     }
 
     /// Rounds the relaxation of a node that was solved last, or takes what is in there where nothing is open; whether that is
@@ -316,14 +318,7 @@ impl Finder {
 
     /// Searches for the cheapest configuration from where it was begun, with so many visits; whether it comes to its end. Where
     /// the root's relaxation can't be solved, its rounding is taken.
-    pub(crate) fn find(
-        &mut self,
-        matrix: &Matrix,
-        budget: i64,
-        rule: &Rule,
-        visits: usize,
-    ) -> bool {
-        self.rule = *rule;
+    pub(crate) fn find(&mut self, matrix: &Matrix, budget: i64, visits: usize) -> bool {
         let mut dive = None;
         let mut turns = 0u32;
         let mut is_whole = false;
@@ -339,8 +334,8 @@ impl Finder {
             if dive.is_none() {
                 turns = turns.wrapping_add(1);
             }
-            is_whole = self.tree.bound(place) >= self.target() || self.tree.is_full();
-            if is_whole {
+            is_whole = self.tree.bound(place) >= self.target();
+            if is_whole || self.tree.is_full() {
                 break;
             }
             let side = self.visit(matrix, budget, place);

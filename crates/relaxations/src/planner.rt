@@ -85,6 +85,8 @@ pub(crate) struct Planner {
     pub hint: usize,
     pub asked: u64,
     pub has_open: bool,
+    /// The least value of a leaf that is left open.
+    pub least: i128,
     pub covers: Vec<u64>,
     pub cost: i128,
     pub target: i128,
@@ -116,6 +118,7 @@ impl Planner {
             hint: 0,
             asked: 0,
             has_open: false,
+            least: i128::MAX,
             covers: Vec::with_capacity(alloc, nodes)?,
             cost: 0,
             target: 0,
@@ -152,6 +155,7 @@ impl Planner {
         self.fixings.clear();
         self.pending = 0;
         self.has_open = false;
+        self.least = i128::MAX;
         self.is_heavy = false;
         self.hint = self.count.saturating_sub(1).min(1);
     }
@@ -253,7 +257,10 @@ impl Planner {
 
     /// Appends a leaf.
     pub(crate) fn put_leaf(&mut self, best: Best, is_open: bool) {
-        self.has_open = self.has_open || is_open;
+        if is_open {
+            self.has_open = true;
+            self.least = self.least.min(best.value);
+        }
         let _ = self.plan.push(PlanNode {
             candidate: 0,
             set: (best.set & 255) as u8,

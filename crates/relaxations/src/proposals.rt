@@ -57,8 +57,6 @@ pub struct Proposals {
     waiting: Vec<(usize, usize)>,
     root: Fix,
     limits: Limits,
-    /// The rule of the last search.
-    rule: usize,
     /// The configuration that was found last, if there is one.
     pub(crate) known: Option<Chosen>,
     /// How many sets are recalled of elsewhere, zeros among them, and a tree with them.
@@ -93,7 +91,6 @@ impl Proposals {
                 nodes: most,
                 most_sets: 1,
             },
-            rule: 0,
             known: None,
             recalled: 0,
             tree: Vec::with_capacity(alloc, 0)?,
@@ -134,9 +131,13 @@ impl Proposals {
         };
         if !is_shown {
             // As if nothing were known, so that what is found then is never worse for what was known.
-            self.begin(None);
-            self.find_by(0);
+            self.search(0, None);
         }
+        self.remember()
+    }
+
+    /// Remembers the cheapest configuration that was found.
+    fn remember(&mut self) -> Config {
         let on = self.finder.best.on;
         self.known = Some(on);
         Config { on }
@@ -150,24 +151,24 @@ impl Proposals {
             .begin(&self.matrix, &settled, self.limits.budget, known);
     }
 
-    /// Searches by a rule from where it was begun, and where that comes to no end by the next ones, from the root each time.
-    fn find_by(&mut self, first: usize) {
+    /// Searches from the root by the rules from one on until a search comes to its end, at first with a configuration that is
+    /// known, if one is.
+    fn search(&mut self, first: usize, known: Option<Chosen>) {
+        let mut known = known;
+        let has_groups = self.has_groups();
         for number in first..RULES.len() {
-            if number > first {
-                let known = self.finder.best.on;
-                self.begin(Some(&known));
-            }
-            self.rule = number;
-            let rule = RULES[number];
-            let visits = if self.has_groups() {
-                rule.visits
+            self.begin(known.as_ref());
+            self.finder.tried = number + 1;
+            let visits = if has_groups {
+                RULES[number].visits
             } else {
                 MOST_NODES
             };
             let budget = self.limits.budget;
-            if self.finder.find(&self.matrix, budget, &rule, visits) {
+            if self.finder.find(&self.matrix, budget, visits) || !has_groups {
                 break;
             }
+            known = Some(self.finder.best.on);
         }
     }
 
@@ -206,32 +207,54 @@ impl Proposals {
         is_closed
     }
 
-    /// Makes sets, and with them a plan that is to show that no configuration below the root of `find` is cheaper than a cost.
-    pub fn plan(&mut self, cost: u128) {
+    /// Makes sets, and with them a plan that is to show that no configuration below the root of `find` is cheaper than a cost,
+    /// or than what is found meanwhile: the cheapest configuration that is known then.
+    pub fn plan(&mut self, cost: u128) -> Config {
         let whole = cost.min(MOST_COST) as i128;
         if self.planned != Some(whole) {
             self.plan_anew(whole);
-            for _turn in 0..RULES.len() {
-                if !self.planner.has_open || !self.may_differ() {
-                    break;
-                }
-                let known = self.finder.best.on;
-                self.begin(Some(&known));
-                self.find_by(self.rule.saturating_add(1));
-                self.plan_anew(whole);
-            }
+            self.plan_by_others(whole);
         }
         let task = task_of(&self.matrix, &self.limits);
         self.splitter.read(self.planner.plan.as_slice());
         self.splitter.split(&task, &mut self.planner);
         let numbers = self.keep_sets();
         self.write_steps(&numbers);
+        self.remember()
     }
 
-    /// Makes sets and a plan along the tree of the last search.
+    /// While a leaf is left open, plans along the trees of searches by further rules; where each leaves one open, along that
+    /// tree again whose least open leaf was worth most.
+    fn plan_by_others(&mut self, cost: i128) {
+        let mut best = self.finder.tried;
+        let mut least = self.planner.least;
+        for _turn in 0..RULES.len() {
+            if !self.planner.has_open || !self.may_differ() {
+                break;
+            }
+            self.plan_by(self.finder.tried, cost);
+            if self.planner.least > least {
+                best = self.finder.tried;
+                least = self.planner.least;
+            }
+        }
+        if best != self.finder.tried {
+            self.plan_by(best.saturating_sub(1), cost);
+        }
+    }
+
+    /// Makes sets and a plan along the tree of a search by the rules from one on.
+    fn plan_by(&mut self, first: usize, cost: i128) {
+        let known = self.finder.best.on;
+        self.search(first, Some(known));
+        self.plan_anew(cost);
+    }
+
+    /// Makes sets and a plan along the tree of the last search, which may have found what is cheaper.
     fn plan_anew(&mut self, cost: i128) {
         let task = task_of(&self.matrix, &self.limits);
-        self.planner.aim(self.finder.tree.reach(cost));
+        let least = cost.min(self.finder.best.cost);
+        self.planner.aim(self.finder.tree.reach(least));
         self.planner.begin(&task, &self.root);
         if self.planner.has_room(&task) {
             let _ = self.planner.add_own(&task, &mut self.finder);
@@ -241,8 +264,8 @@ impl Proposals {
 
     /// Whether a search by another rule may have another tree, for which there are nodes.
     fn may_differ(&self) -> bool {
-        self.rule.saturating_add(1) < RULES.len()
-            && self.has_groups()
+        self.finder.tried < RULES.len()
+            && (self.finder.tried == 0 || self.has_groups())
             && self.finder.tree.nodes.len() <= self.limits.nodes
     }
 
