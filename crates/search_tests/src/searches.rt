@@ -197,6 +197,44 @@ fn clustered_as_by_trying_all(rt: HostRuntime) {
     judge_budgets(&rt, alloc, &shared(&rt, alloc), THREE);
 }
 
+/// Two candidates that clash, of which both serve one join.
+const TWO: [u16; 6] = [0, 1, 1, 0, 0, 0];
+
+/// A search that begins anew, and one that goes on, at each budget of nodes. A tree of six candidates has at most 127.
+fn judge_all_nodes(
+    rt: &impl Abort,
+    alloc: Global,
+    problem: &Problem<'_>,
+    proposed: &mut Proposals,
+)
+    requires budget { problem.now.budget ≤ 1000 }
+{
+    let best = least(problem);
+    for nodes in 1..128 {
+        let mut fresh = proposals(rt, alloc, problem.programme);
+        let answer = searched(rt, alloc, problem, nodes, &mut fresh);
+        judge_answer(rt, problem, nodes as usize, best, &answer);
+        let answer = searched(rt, alloc, problem, nodes, proposed);
+        judge_answer(rt, problem, nodes as usize, best, &answer);
+    }
+}
+
+/// Where two of six candidates clash, at every budget of pages and of nodes. All have 20 pages.
+#[test]
+fn two_that_clash_as_by_trying_all(rt: HostRuntime) {
+    let alloc = rt.alloc();
+    let programme = mixed(&rt, alloc);
+    let mut proposed = proposals(&rt, alloc, &programme);
+    for budget in 0..21 {
+        let problem = Problem {
+            programme: &programme,
+            tables: TWO,
+            budget,
+        };
+        judge_all_nodes(&rt, alloc, &problem, &mut proposed);
+    }
+}
+
 /// The best configuration within a budget has this cost, and the search says so.
 fn costs(
     rt: &impl Abort,
