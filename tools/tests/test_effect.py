@@ -206,11 +206,10 @@ class Text(unittest.TestCase):
 
     def test_it_has_few_lines_that_are_narrow(self) -> None:
         lines = lines_of(self.found(2, 2))
-        self.assertEqual(lines[0], "All 2 indexes are there, 1 of them in use.")
-        self.assertEqual(
-            lines[1], "The statements cost 10.0 % of before by the server's planner; the advice said 9.0 %."
-        )
-        self.assertEqual(lines[2], "Since all indexes stood these 2 statements took 0.40 ms a call, 3.1 before.")
+        self.assertEqual(lines[0], "All 2 indexes are there, 1 of them in use, not used yet: 1.")
+        self.assertEqual(lines[1], "Since all indexes stood these 2 statements took 0.40 ms a call, 3.1 before.")
+        saved = "By the server's planner the statements cost 90.0 % less; the advice said 91.0 %."
+        self.assertEqual(lines[2], saved)
         self.assertRegex(lines[5], r"^ 1\. +0  t1\(a+\.\.\.$")
         self.assertEqual(lines[6], " 2.             1  t2(aaa)")
         self.assertEqual(lines[9], f"{'3,000.0':>10} {'40.0':>10} {'9':>11}  {'S' * 60}")
@@ -232,23 +231,36 @@ class Text(unittest.TestCase):
     def test_what_isnt_known_is_left_out(self) -> None:
         again = "No statement that they help was called since; calls are counted from now on: call this again later."
         self.assertEqual(lines_of(self.found(1, 0))[0], "The index is there, not used yet.")
-        self.assertEqual(lines_of(self.found(1, 0))[2], again)
+        self.assertEqual(lines_of(self.found(1, 0))[1], again)
         lines = lines_of(self.found(1, 0, counted=None, server_cost=None, source="sql"))
         self.assertEqual(lines[1:3], ["The statements came from a file, so no times are compared.", ""])
         self.assertEqual(
             lines_of(self.found(0, 0, counted=None, server_cost=None)), ["The folder has no index to make."]
         )
         some = {"statements": 3, "of": 9, "before": 200.0, "now": 20.0, "advised": 9.0}
-        self.assertTrue(lines_of(self.found(1, 0, server_cost=some))[1].startswith("3 of 9 statements cost 10.0 % of"))
+        told = "By the server's planner 3 of 9 statements cost 90.0 % less; the advice said 91.0 %."
+        self.assertEqual(lines_of(self.found(1, 0, server_cost=some))[2], told)
+
+    def test_statements_that_became_slower_are_told(self) -> None:
+        found = self.found(2, 2)
+        one = found["counted"]["statements"][0]
+        one |= {"before": 2.0, "since": 3.0}
+        self.assertNotIn("slower", "\n".join(lines_of(found)))
+        one |= {"since": 3.1}
+        lines = lines_of(found)
+        self.assertEqual(
+            lines[2], "1 statement is slower by more than half: look at EXPLAIN ANALYZE of what is marked with a !."
+        )
+        self.assertEqual(sum("!S" in it for it in lines), 1)
 
     def test_calls_from_before_the_indexes_stood_are_told(self) -> None:
         counted = self.found(2, 1)["counted"] | {"begin": "advice"}
         lines = lines_of(self.found(2, 1, counted=counted))
-        self.assertTrue(lines[2].startswith("Since the advice this statement took "))
+        self.assertTrue(lines[1].startswith("Since the advice this statement took "))
         later = "Calls before the indexes stood count too; called again later, this counts from now on."
-        self.assertEqual(lines[3], later)
+        self.assertEqual(lines[2], later)
         lines = lines_of(self.found(2, 1, counted=counted, make=["psql -X"]))
-        self.assertEqual(lines[3], "Calls before the indexes stood count too.")
+        self.assertEqual(lines[2], "Calls before the indexes stood count too.")
         self.assertEqual(lines[-2:], ["to make the others:", "psql -X"])
 
 
@@ -291,7 +303,9 @@ class Effect(OverOwn):
         self.assertEqual(summary.splitlines()[-1], then)
         kept = self.folder / "advice of today" / "effect.json"
         text = self.call("effect", self.found, status=3).stdout
-        self.assertTrue(text.startswith("None of the 3 indexes is there.\nThe statements cost 100.0 % of before by "))
+        begin = "None of the 3 indexes is there.\nBy the server's planner the statements cost 0.0 % less; the advice "
+        self.assertTrue(text.startswith(begin), text)
+        self.assertIn(" with all.\n", text)
         self.assertEqual(text.count("      not made  "), 3)
         self.assertIn(text.splitlines()[-1], summary.splitlines())
         self.assertFalse(kept.exists())

@@ -9,6 +9,8 @@ from cophy_pg.standing import THERE
 MOST_LINES, MOST_STATEMENTS, MOST_SLOWER, LEAST = 20, 10, 3, 4
 """About so many lines are printed, of them at most so many statements, of these so many that got slower; and at least so many
 rows of indexes and of statements."""
+SLOWER = 1.5
+"""A statement that takes more than so many times as long is told."""
 
 
 def lines_of(found: dict[str, Any]) -> list[str]:
@@ -23,24 +25,42 @@ def lines_of(found: dict[str, Any]) -> list[str]:
 
 
 def _sentences(found: dict[str, Any]) -> list[str]:
-    """Whether all is there, and what that brought by the planner and by the clock."""
-    lines, cost, counted = [_there(found["indexes"])], found["server_cost"], found["counted"]
-    if cost:
-        part = f"{cost['statements']} of {cost['of']}" if cost["statements"] < cost["of"] else "The"
-        now, said = share(cost["now"], cost["before"]), percent(cost["advised"])
-        lines += [f"{part} statements cost {now} of before by the server's planner; the advice said {said}."]
+    """Whether all is there, and what that brought by the clock and by the planner."""
+    return [_there(found["indexes"]), *_by_clock(found), *_by_planner(found)]
+
+
+def _by_clock(found: dict[str, Any]) -> list[str]:
+    """How long a call took before and since."""
+    counted = found["counted"]
     if found["source"] != "pg_stat_statements":
-        return [*lines, "The statements came from a file, so no times are compared."]
+        return ["The statements came from a file, so no times are compared."]
     if counted is None or not any(it["state"] == THERE for it in found["indexes"]):
-        return lines
+        return []
     if not counted["statements"]:
         again = "calls are counted from now on: call this again later."
-        return [*lines, f"No statement that they help was called since; {again}"]
-    lines += [f"{_begin(counted)} took {_ms(counted['since'])} ms a call, {_ms(counted['before'])} before."]
+        return [f"No statement that they help was called since; {again}"]
+    lines = [f"{_begin(counted)} took {_ms(counted['since'])} ms a call, {_ms(counted['before'])} before."]
+    if slower := sum(map(_is_slower, counted["statements"])):
+        are = "statement is" if slower == 1 else "statements are"
+        lines += [f"{slower} {are} slower by more than half: look at EXPLAIN ANALYZE of what is marked with a !."]
     if counted["begin"] == "advice":
         later = "" if found["make"] else "; called again later, this counts from now on"
         lines += [f"Calls before the indexes stood count too{later}."]
     return lines
+
+
+def _by_planner(found: dict[str, Any]) -> list[str]:
+    """What is saved of the cost of the statements, and what the advice said."""
+    if not (cost := found["server_cost"]):
+        return []
+    part = f"{cost['statements']} of {cost['of']}" if cost["statements"] < cost["of"] else "the"
+    saved, said = share(cost["before"] - cost["now"], cost["before"]), percent(100 - cost["advised"])
+    with_all = " with all" * any(it["state"] != THERE for it in found["indexes"])
+    return [f"By the server's planner {part} statements cost {saved} less; the advice said {said}{with_all}."]
+
+
+def _is_slower(it: dict[str, Any]) -> bool:
+    return bool(it["since"] > SLOWER * it["before"])
 
 
 def _there(indexes: list[dict[str, Any]]) -> str:
@@ -54,7 +74,9 @@ def _there(indexes: list[dict[str, Any]]) -> str:
     if not there:
         return f"None of the {len(indexes)} indexes is there."
     count = f"All {len(indexes)}" if len(there) == len(indexes) else f"{len(there)} of {len(indexes)}"
-    return f"{count} indexes are there, {used or 'none'} of them in use{' yet' * (not used)}."
+    idle = ", ".join(str(it["place"]) for it in there if not it["scans"])
+    unused = f", not used yet: {idle}" if used and idle else ""
+    return f"{count} indexes are there, {used or 'none'} of them in use{' yet' * (not used)}{unused}."
 
 
 def _begin(counted: dict[str, Any]) -> str:
@@ -86,7 +108,10 @@ def _statements(every: list[dict[str, Any]], most: int) -> list[str]:
     others = [it for it in every if it not in slower]
     shown = [*others[: most - len(slower)], *slower]
     lines = ["", f"{'ms before':>10} {'ms since':>10} {'calls':>11}  statement"]
-    lines += [f"{_ms(it['before']):>10} {_ms(it['since']):>10} {grouped(it['calls']):>11}  {it['sql']}" for it in shown]
+    lines += [
+        f"{_ms(it['before']):>10} {_ms(it['since']):>10} {grouped(it['calls']):>11} {'!' if _is_slower(it) else ' '}{it['sql']}"
+        for it in shown
+    ]
     more = len(every) - len(shown)
     return lines + [f"and {grouped(more)} more"] * bool(more)
 

@@ -7,8 +7,12 @@ import sys
 import time
 
 
+PART = 0.1
+"""After a step has taken some time, the next line comes when it has taken so much more."""
+
+
 class Progress:
-    """Tells what is being done once it has taken over a second."""
+    """Tells what is being done once it has taken over a second, the longer it takes the more rarely."""
 
     def __init__(self) -> None:
         self.begun = time.monotonic()
@@ -16,7 +20,7 @@ class Progress:
 
     def __call__(self, text: str) -> None:
         now = time.monotonic()
-        if now - self.told > 1:
+        if now - self.told > max(1.0, PART * (now - self.begun)):
             self.told = now
             say(f"{text}, {now - self.begun:.0f} s so far")
 

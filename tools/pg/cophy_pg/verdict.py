@@ -36,6 +36,8 @@ MOST_WARNINGS = 2
 MUCH_SPACE, FEW = 0.25, 3
 """An index that takes more than this part of the space for less than so many percent, and a tenth of what all save, is
 told; so is that rows don't sum to what all save but for so many percent."""
+MUCH_MORE = 10
+"""Where others could save so many percent of the cost more, the index that most of that is of is told."""
 Row = tuple[int, dict[str, Any]]
 WELL_JUDGED = 0.9
 """Where the statements that were priced have this part of the measured time, that isn't told."""
@@ -143,7 +145,14 @@ def _notes(advised: list[Row], document: dict[str, Any]) -> list[str]:
     summed = sum(saved_of(it) for _, it in advised)
     if advised and abs(summed - whole) >= FEW:
         lines += [f"rows sum to {summed:.0f} %: each says what is lost without that one alone"]
-    return lines
+    return lines + _held_back(document)
+
+
+def _held_back(document: dict[str, Any]) -> list[str]:
+    """Which index others could save much more by, and why it isn't advised, where that is so."""
+    ours, gap = document["cost"], document.get("gap")
+    more = 100 * (recommended_of(document)["cost"] - ours["bound"]) / max(1, ours["before"])
+    return [f"most of what others could save more is {gap['index']}: {gap['why']}"] if gap and more >= MUCH_MORE else []
 
 
 def _row(at: int, pick: dict[str, Any], wide: int, document: dict[str, Any]) -> str:
