@@ -201,12 +201,7 @@ fn clustered_as_by_trying_all(rt: HostRuntime) {
 const TWO: [u16; 6] = [0, 1, 1, 0, 0, 0];
 
 /// A search that begins anew, and one that goes on, at each budget of nodes. A tree of six candidates has at most 127.
-fn judge_all_nodes(
-    rt: &impl Abort,
-    alloc: Global,
-    problem: &Problem<'_>,
-    proposed: &mut Proposals,
-)
+fn judge_all_nodes(rt: &impl Abort, alloc: Global, problem: &Problem<'_>, proposed: &mut Proposals)
     requires budget { problem.now.budget ≤ 1000 }
 {
     let best = least(problem);

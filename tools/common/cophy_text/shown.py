@@ -57,3 +57,8 @@ def percent(number: float) -> str:
 def share(part: float, whole: float) -> str:
     """A part in percent of a whole."""
     return f"{100 * part / whole:,.1f} %" if whole else "0.0 %"
+
+
+def in_row(every: list[str]) -> str:
+    """Some words in a row: 'A, B and C'."""
+    return " and ".join([", ".join(every[:-1]), every[-1]]) if every[1:] else every[0]

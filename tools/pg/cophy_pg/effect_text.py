@@ -4,13 +4,12 @@ from __future__ import annotations
 from typing import Any
 
 from cophy_text.shown import grouped, percent, share, short
+from cophy_pg.measured import SLOWER
 from cophy_pg.standing import THERE
 
 MOST_LINES, MOST_STATEMENTS, MOST_SLOWER, LEAST = 20, 10, 3, 4
 """About so many lines are printed, of them at most so many statements, of these so many that got slower; and at least so many
 rows of indexes and of statements."""
-SLOWER = 1.5
-"""A statement that takes more than so many times as long is told."""
 
 
 def lines_of(found: dict[str, Any]) -> list[str]:

@@ -10,8 +10,9 @@ from cophy_pg.inputs import Input
 from cophy_pg.paths import Paths
 from cophy_pg.snapshots import Snapshot, digest, since
 
-SLOWER, SEEN = 1.2, 0.01
-"""A statement got slower that takes so many times as long, and has lost such a part of the time of all by that."""
+SLOWER, SEEN = 1.5, 0.01
+"""A statement got slower that takes so many times as long; one that no index helps is told where it lost such a part of the
+time of all by that."""
 
 
 @dataclass(frozen=True)

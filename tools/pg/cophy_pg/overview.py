@@ -4,7 +4,7 @@ from __future__ import annotations
 from typing import Any
 
 from cophy_text.answers import counted
-from cophy_text.shown import SHORT, grouped, percent, share, short, space
+from cophy_text.shown import SHORT, grouped, in_row, percent, share, short, space
 from cophy_pg.choice import ASKED, UNTAKEN
 from cophy_pg.closing import costs, is_hint, last_of, pages_of, recommended_of, rows_of
 from cophy_pg.expression_hints import SAME
@@ -120,24 +120,19 @@ def _hints(document: dict[str, Any]) -> list[str]:
     if little and options["min_saving"] < LITTLE:
         size = space(sum(picks[at]["stored_pages"] for at in little))
         save, take = ("saves", "takes") if len(little) == 1 else ("save", "take")
-        what = f"{_numbers(little)} {save} less than {LITTLE} % and {take} {size}"
+        what = f"{in_row([str(at) for at in little])} {save} less than {LITTLE} % and {take} {size}"
         lines += [f"{what}: --min-saving {LITTLE} leaves such out"]
     wide = [at for at, it in picks.items() if len(it["columns"]) >= WIDE]
     if wide and not options["include"]:
         have = "has" if len(wide) == 1 else "have"
-        what = f"{_numbers(wide)} {have} {WIDE} columns or more"
+        what = f"{in_row([str(at) for at in wide])} {have} {WIDE} columns or more"
         lines += [f"{what}: --include puts what is only read behind INCLUDE"]
     unadvised = [at for at, it in picks.items() if it.get("caveat")]
     if unadvised:
-        lines += [f"{_numbers(unadvised)} not recommended: the script makes such with -v all=1 alone"]
+        lines += [f"{in_row([str(at) for at in unadvised])} not recommended: the script makes such with -v all=1 alone"]
     if len(picks) > 1:
         lines += ["psql passes over numbers of your choice with -v without=N,N"]
     return [*lines, ""] if lines else []
-
-
-def _numbers(listed: list[int]) -> str:
-    """The numbers of picks in a row."""
-    return " and ".join([", ".join(map(str, listed[:-1])), str(listed[-1])]) if listed[1:] else str(listed[0])
 
 
 def named(pick: dict[str, Any]) -> str:

@@ -5,6 +5,7 @@ import re
 from collections.abc import Iterable, Mapping, Sequence
 from typing import Any
 
+from cophy_text.shown import in_row
 from cophy_pg.schema import Schema
 from cophy_pg.server import Server
 from cophy_pg.why import Reason
@@ -57,7 +58,7 @@ def writes_of(
         writes = {at: command for at in set[int]().union(*paying) if (command := _command(texts[at - 1])) in PLACES}
         if writes:
             commands = [it for it in PLACES if it in writes.values()]
-            row = {"command": _listed(commands), "table": table, "calls": sum(calls.get(it, 0) for it in writes)}
+            row = {"command": in_row(commands), "table": table, "calls": sum(calls.get(it, 0) for it in writes)}
             more = {"kept": sum(bool(it & {*writes}) for it in paying), "new": len(listed), "before": before.get(table)}
             found.append(row | more)
     return sorted(found, key=lambda it: (-it["calls"], it["table"]))
@@ -73,10 +74,6 @@ def _set_by(text: str, table: str) -> set[str]:
     found = _UPDATE.match(text)
     is_of = found is not None and found[1].lower() == table.lower()
     return {it.lower() for it in _SET.findall(found[2])} if found is not None and is_of else set()
-
-
-def _listed(commands: list[str]) -> str:
-    return " and ".join([", ".join(commands[:-1]), commands[-1]]) if commands[1:] else commands[0]
 
 
 def told(writes: list[dict[str, Any]]) -> list[str]:
