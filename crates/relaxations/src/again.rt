@@ -10,6 +10,8 @@ use interior_point::{at, put};
 const KEPT: usize = 9;
 /// The same where the plan had too many sets.
 const KEPT_AGAIN: usize = 11;
+/// The most times that candidates of the configuration that is known are exchanged, with fixings between.
+const MOST_EXCHANGES: usize = 8;
 /// The nodes that trials have.
 const NODES: usize = 80;
 
@@ -134,26 +136,31 @@ impl Planner {
     fn plan_below(&mut self, task: &Task<'_>, finder: &mut Finder) -> bool {
         self.begin_anew();
         let start = self.start();
-        match self.settle(task, 3, usize::MAX) {
-            Settled::Closed => self.finish(task, start),
-            Settled::Full => self.leave_open(task, start),
-            Settled::Open(_) => {
-                self.plan_open(task, finder);
-                self.finish(task, start);
+        for _turn in 0..MOST_EXCHANGES {
+            match self.settle(task, 3, usize::MAX) {
+                Settled::Closed => {
+                    self.finish(task, start);
+                    return !self.has_open;
+                }
+                Settled::Full => break,
+                Settled::Open(_) => {}
+            }
+            if !self.exchange(task, finder) {
+                break;
             }
         }
+        self.deepen(task, finder, NODES, MOST_DEEPER - 1);
+        self.finish(task, start);
         !self.has_open
     }
 
-    /// The same below the fixings of the root: by a trial, or once the configuration that is known can't be mended by what is open.
-    fn plan_open(&mut self, task: &Task<'_>, finder: &mut Finder) {
-        if self.close(task, NODES, None) {
-            return;
-        }
+    /// Exchanges candidates of the configuration that is known for what is open; whether that is cheaper.
+    fn exchange(&mut self, task: &Task<'_>, finder: &mut Finder) -> bool {
         let fix = self.path.settled();
-        if finder.exchange(task.matrix, &fix, task.budget) {
+        let is_cheaper = finder.exchange(task.matrix, &fix, task.budget);
+        if is_cheaper {
             self.aim(finder.best.cost);
         }
-        self.deepen(task, finder, NODES, MOST_DEEPER - 1);
+        is_cheaper
     }
 }
