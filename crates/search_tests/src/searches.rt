@@ -150,7 +150,7 @@ fn as_by_trying_all(rt: HostRuntime) {
     }
 }
 
-/// With 1 to 70 nodes, and many.
+/// At every budget of nodes: a tree of six candidates has at most 127.
 fn judge_nodes(
     rt: &impl Abort,
     alloc: Global,
@@ -160,29 +160,37 @@ fn judge_nodes(
 )
     requires budget { problem.now.budget ≤ 1000 }
 {
-    for nodes in 1..71 {
+    for nodes in 1..128 {
         judge(rt, alloc, problem, nodes, best, proposed);
     }
     judge(rt, alloc, problem, 20000, best, proposed);
 }
 
-/// So where candidates are clustered on these tables, at each budget at which the least cost falls. All have 20 pages.
+/// So where candidates are clustered on these tables, at every budget of pages, of which all candidates have 20 at most. At one
+/// of these at least what clashes would be best.
 fn judge_budgets(rt: &impl Abort, alloc: Global, programme: &Programme, tables: [u16; 6]) {
     let mut proposed = proposals(rt, alloc, programme);
-    let mut before = u128::MAX;
+    let mut is_bound = false;
     for budget in 0..21 {
         let problem = Problem {
             programme,
             tables,
             budget,
         };
+        let plain = Problem {
+            programme,
+            tables: PLAIN,
+            budget,
+        };
         let best = least(&problem);
-        if best < before {
-            judge_nodes(rt, alloc, &problem, best, &mut proposed);
-        }
-        before = best;
+        is_bound = is_bound || least(&plain) < best;
+        judge_nodes(rt, alloc, &problem, best, &mut proposed);
     }
+    assert!(rt; is_bound);
 }
+
+/// Two candidates that clash.
+const TWO: [u16; 6] = [0, 1, 1, 0, 0, 0];
 
 /// Two pairs of candidates that clash.
 const PAIRS: [u16; 6] = [1, 1, 2, 2, 0, 0];
@@ -190,44 +198,14 @@ const PAIRS: [u16; 6] = [1, 1, 2, 2, 0, 0];
 /// Three candidates that clash with each other.
 const THREE: [u16; 6] = [3, 0, 3, 3, 0, 0];
 
+/// Of the programme that is drawn by 233 each candidate serves a statement.
 #[test]
 fn clustered_as_by_trying_all(rt: HostRuntime) {
     let alloc = rt.alloc();
+    let mut draws = Draws::new(233);
+    judge_budgets(&rt, alloc, &drawn(&rt, alloc, &mut draws), TWO);
     judge_budgets(&rt, alloc, &mixed(&rt, alloc), PAIRS);
     judge_budgets(&rt, alloc, &shared(&rt, alloc), THREE);
-}
-
-/// Two candidates that clash, of which both serve one join.
-const TWO: [u16; 6] = [0, 1, 1, 0, 0, 0];
-
-/// A search that begins anew, and one that goes on, at each budget of nodes. A tree of six candidates has at most 127.
-fn judge_all_nodes(rt: &impl Abort, alloc: Global, problem: &Problem<'_>, proposed: &mut Proposals)
-    requires budget { problem.now.budget ≤ 1000 }
-{
-    let best = least(problem);
-    for nodes in 1..128 {
-        let mut fresh = proposals(rt, alloc, problem.programme);
-        let answer = searched(rt, alloc, problem, nodes, &mut fresh);
-        judge_answer(rt, problem, nodes as usize, best, &answer);
-        let answer = searched(rt, alloc, problem, nodes, proposed);
-        judge_answer(rt, problem, nodes as usize, best, &answer);
-    }
-}
-
-/// Where two of six candidates clash, at every budget of pages and of nodes. All have 20 pages.
-#[test]
-fn two_that_clash_as_by_trying_all(rt: HostRuntime) {
-    let alloc = rt.alloc();
-    let programme = mixed(&rt, alloc);
-    let mut proposed = proposals(&rt, alloc, &programme);
-    for budget in 0..21 {
-        let problem = Problem {
-            programme: &programme,
-            tables: TWO,
-            budget,
-        };
-        judge_all_nodes(&rt, alloc, &problem, &mut proposed);
-    }
 }
 
 /// The best configuration within a budget has this cost, and the search says so.
