@@ -54,6 +54,22 @@ class Writes(unittest.TestCase):
             found = writes_of([reason(1, "u", {1: 300})], texts, {1: 8, 2: 9, 3: 7}, {"u": 1}, {"u": columns})
             self.assertEqual([tuple(it.values()) for it in found], wanted)
 
+    def test_the_columns_that_an_update_sets_are_those_of_its_tokens(self) -> None:
+        for text, wanted in (
+            ("UPDATE u SET c = ?", "c"),
+            ('update "U" AS x\nset "D"=x.e,\n c =f(x.e, 1) WHERE e = 1 AND a IN (1, 2)', "c d"),
+            ("-- weight 3\n/* SET e = 1 */ UPDATE u -- SET a = 2,\nSET c /* , e = */ = 1", "c"),
+            ("UPDATE u SET c = ' SET a = 1, e = ''x'', a = 2'", "c"),
+            ('UPDATE u "set" SET "order" = 1, c = "set".e', "c order"),
+            ("UPDATE u SET c = (SELECT e FROM v WHERE a = 1 AND (b, d) = (1, 2)), f = 3", "c f"),
+            ("UPDATE \"v\" SET c = 'UPDATE u SET a = 1'", ""),
+            ("DELETE FROM u WHERE c = 1", ""),
+        ):
+            for column in ("a", "b", "c", "d", "e", "f", "order"):
+                with self.subTest(text=text, column=column):
+                    found = writes_of([reason(1, "u", {})], [text], {1: 9}, {"u": 1}, {"u": {column}})
+                    self.assertEqual(bool(found), column in wanted.split())
+
 
 if __name__ == "__main__":
     unittest.main()

@@ -42,6 +42,12 @@ class Token:
         """The word in capitals, and nothing for other kinds of tokens."""
         return self.text.decode("ascii").upper() if self.kind == "word" else ""
 
+    @property
+    def name(self) -> str:
+        """The word or the quoted name in small letters, and nothing for other kinds of tokens."""
+        is_name = self.kind in ("word", "quoted")
+        return self.text.decode("ascii", "replace").strip('"').lower() if is_name else ""
+
 
 def lexemes(text: bytes) -> Iterator[tuple[str, bytes]]:
     """The kind and the bytes of each blank, comment and token in turn, up to the end of the text, to the first byte that no
@@ -133,8 +139,7 @@ def statements(text: bytes) -> dict[int, str]:
 
 def names_in(text: bytes) -> set[str]:
     """The words and the quoted names of a workload, in small letters."""
-    listed = (it for it in tokens(text) if it.kind in ("word", "quoted"))
-    return {it.text.decode("ascii", "replace").strip('"').lower() for it in listed}
+    return {it.name for it in tokens(text) if it.name}
 
 
 def has_statement(text: bytes) -> bool:

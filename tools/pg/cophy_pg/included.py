@@ -28,7 +28,7 @@ def searched_columns(workload: bytes) -> set[str]:
         elif token.word in CLAUSES:
             clause = CLAUSES[token.word]
         elif clause == "searched" and is_name(token) and not any(calls) and not is_apart(after):
-            found.add(token.text.decode("ascii", "replace").strip('"').lower())
+            found.add(token.name)
     return found
 
 

@@ -131,18 +131,14 @@ def compared_columns(schema: Schema, workload: bytes) -> set[tuple[str, str]]:
         elif token.word == "DISTINCT" and clause == "read" and not calls:
             clause = "searched"
         elif clause == "sources" and is_name(token) and not calls:
-            statement.add_source(_text(token), before.text == b"," or before.word in CLAUSES)
+            statement.add_source(token.name, before.text == b"," or before.word in CLAUSES)
         elif (
             clause == "searched" and is_name(token) and not any(calls) and not is_apart(after) and not _is_liked(after)
         ):
-            statement.compared.append((_text(listed[at - 2]) if before.text == b"." else "", _text(token)))
+            statement.compared.append((listed[at - 2].name if before.text == b"." else "", token.name))
     return found | statement.columns(schema)
 
 
 def _is_liked(after: list[Token]) -> bool:
     words = [it.word for it in after]
     return words[:1] == ["LIKE"] or words[:2] == ["NOT", "LIKE"]
-
-
-def _text(token: Token) -> str:
-    return token.text.decode("ascii", "replace").strip('"').lower()

@@ -1,11 +1,11 @@
 """Which writes have more indexes to keep."""
 from __future__ import annotations
 
-import re
 from collections.abc import Iterable, Mapping, Sequence
 from typing import Any
 
 from cophy_text.shown import in_row
+from cophy_text.tokens import Token, tokens
 from cophy_pg.schema import Schema
 from cophy_pg.server import Server
 from cophy_pg.why import Reason
@@ -13,8 +13,6 @@ from cophy_pg.why import Reason
 PLACES = {"INSERT": "into", "UPDATE": "of", "DELETE": "from"}
 MOST_TABLES = 2
 """So many tables are named, those that are written the most often."""
-_UPDATE = re.compile(r'UPDATE "?(\w+)"?[^\n]*\nSET ([^\n]*)', re.IGNORECASE)
-_SET = re.compile(r"(\w+)\"? = ")
 _INDEXES = """
 SELECT indrelid::pg_catalog.int8, pg_catalog.count(*) FROM pg_catalog.pg_index
 WHERE indrelid = ANY(%s::pg_catalog.oid[]) GROUP BY indrelid"""
@@ -45,35 +43,41 @@ def writes_of(
     more by our model, and each UPDATE that sets an indexed column, since its rows get entries in all indexes. The
     texts are those of the workload, `calls` go by their numbers, `before` has how many indexes a table has, and
     `indexed` the columns of these."""
-    tables: dict[str, list[Reason]] = {}
+    statements, tables = [_tokens(it) for it in texts], dict[str, list[Reason]]()
+    commands = {at: listed[0].word for at, listed in enumerate(statements, 1)}
     for it in picks:
         tables.setdefault(it.pick.table, []).append(it)
     found = []
     for table, listed in tables.items():
         paying = [{at for at, change in it.changes.items() if change < 0} for it in listed]
         columns = {name.lower() for name in indexed.get(table, set()).union(*(it.pick.columns for it in listed))}
-        moving = {at for at in set[int]().union(*paying) if _command(texts[at - 1]) == "UPDATE"}
-        moving |= {at for at, text in enumerate(texts, 1) if _set_by(text, table) & columns}
+        moving = {at for at in set[int]().union(*paying) if commands[at] == "UPDATE"}
+        moving |= {at for at, statement in enumerate(statements, 1) if _set_by(statement, table) & columns}
         paying = [it | moving for it in paying]
-        writes = {at: command for at in set[int]().union(*paying) if (command := _command(texts[at - 1])) in PLACES}
+        writes = {at: commands[at] for at in set[int]().union(*paying) if commands[at] in PLACES}
         if writes:
-            commands = [it for it in PLACES if it in writes.values()]
-            row = {"command": in_row(commands), "table": table, "calls": sum(calls.get(it, 0) for it in writes)}
+            shown = [it for it in PLACES if it in writes.values()]
+            row = {"command": in_row(shown), "table": table, "calls": sum(calls.get(it, 0) for it in writes)}
             more = {"kept": sum(bool(it & {*writes}) for it in paying), "new": len(listed), "before": before.get(table)}
             found.append(row | more)
     return sorted(found, key=lambda it: (-it["calls"], it["table"]))
 
 
-def _command(text: str) -> str:
-    """The first word of a statement."""
-    return text.split(None, 1)[0].upper()
+def _tokens(text: str) -> list[Token]:
+    """The tokens of a statement of a workload."""
+    return [it for it in tokens(text.encode(errors="replace")) if it.kind != "weight"]
 
 
-def _set_by(text: str, table: str) -> set[str]:
-    """The columns that a statement of a workload sets, where it is an UPDATE of a table, in small letters."""
-    found = _UPDATE.match(text)
-    is_of = found is not None and found[1].lower() == table.lower()
-    return {it.lower() for it in _SET.findall(found[2])} if found is not None and is_of else set()
+def _set_by(statement: list[Token], table: str) -> set[str]:
+    """The columns that a statement sets, where it is an UPDATE of a table, in small letters."""
+    found, depth = set[str](), 0
+    if statement[0].word != "UPDATE" or statement[1].name != table.lower():
+        return found
+    for before, token, after in zip(statement, statement[1:], statement[2:]):
+        depth += (token.text == b"(") - (token.text == b")")
+        if depth == 0 and after.text == b"=" and (before.word == "SET" or before.text == b","):
+            found.add(token.name)
+    return found
 
 
 def told(writes: list[dict[str, Any]]) -> list[str]:
