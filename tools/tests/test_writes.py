@@ -1,11 +1,16 @@
 """Which writes are told to have more indexes to keep."""
 from __future__ import annotations
 
+import os
 import unittest
+from unittest import mock
 
 from cophy_text.answers import Candidate
+from cophy_pg.schema import Column, Table
 from cophy_pg.why import Reason
 from cophy_pg.writes import told, writes_of
+
+from private_server import PrivateServer, missing
 
 TEXTS = (
     "SELECT a FROM t",
@@ -32,27 +37,47 @@ class Writes(unittest.TestCase):
             reason(5, "v", {1: 200}),
             reason(6, "w", {1: 100, 5: -2}),
         ]
-        found = writes_of(picks, TEXTS, CALLS, {"t": 4, "u": 1, "w": 2}, {})
+        found = writes_of(picks, TEXTS, CALLS, {"t": (4, set()), "u": (1, set()), "w": (2, {"A"})})
         rows = [tuple(it.values()) for it in found]
-        both = ("INSERT and UPDATE", "t", 150, 2, 2, 4)
+        both: tuple[object, ...] = ("INSERT and UPDATE", "t", 150, 2, 2, 4, [])
         # An UPDATE that has an index to keep has entries to add to all of its table.
-        self.assertEqual(rows, [both, ("UPDATE", "u", 7, 2, 2, 1), ("UPDATE", "w", 6, 1, 1, 2)])
+        self.assertEqual(rows, [both, ("UPDATE", "u", 7, 2, 2, 1, []), ("UPDATE", "w", 6, 1, 1, 2, [])])
         line = "writes: INSERT and UPDATE of t have 2 indexes more to keep (4 to 6)"
         self.assertEqual(told(found), [f"{line}, UPDATE of u has 2 indexes more to keep (1 to 3)"])
         self.assertEqual(told(found[2:]), ["writes: UPDATE of w has 1 index more to keep (2 to 3)"])
-        self.assertEqual(told(writes_of(picks[2:3], TEXTS, CALLS, {}, {})), [])
-        often = writes_of(picks[:1], TEXTS, CALLS, {"t": 4}, {})
+        self.assertEqual(told(writes_of(picks[2:3], TEXTS, CALLS, {})), [])
+        often = writes_of(picks[:1], TEXTS, CALLS, {"t": (4, set())})
         self.assertEqual(told(often), ["writes: INSERT into t has 1 index more to keep (4 to 5)"])
 
     def test_an_update_that_sets_an_indexed_column_has_all_indexes_to_keep(self) -> None:
         texts = ("SELECT a FROM u", 'UPDATE u x\nSET c = ?, "D" = x.c\nWHERE a = 7', "UPDATE v\nSET c = ?")
         for columns, wanted in (
-            ({"c"}, [("UPDATE", "u", 9, 1, 1, 1)]),
-            ({"d"}, [("UPDATE", "u", 9, 1, 1, 1)]),
+            ({"c"}, [("UPDATE", "u", 9, 1, 1, 1, [])]),
+            ({"d"}, [("UPDATE", "u", 9, 1, 1, 1, [])]),
             ({"e"}, []),
         ):
-            found = writes_of([reason(1, "u", {1: 300})], texts, {1: 8, 2: 9, 3: 7}, {"u": 1}, {"u": columns})
+            found = writes_of([reason(1, "u", {1: 300})], texts, {1: 8, 2: 9, 3: 7}, {"u": (1, columns)})
             self.assertEqual([tuple(it.values()) for it in found], wanted)
+
+    def test_an_update_that_could_be_hot_is_told_where_it_sets_a_column_of_new_indexes_alone(self) -> None:
+        texts = (
+            "INSERT INTO u (a) VALUES (1)",
+            "UPDATE u SET d = 1",
+            "UPDATE u SET a = 1, e = 2",
+            "UPDATE u SET B = ?",
+        )
+        picks = [Reason(Candidate(1, "u", ("a", "c"), 9), 0, {1: -1}), Reason(Candidate(2, "u", ("b",), 9), 0, {1: -1})]
+        both = "INSERT and UPDATE of u have 2 indexes more to keep (3 to 5"
+        for count, old, wanted in (
+            (2, {"c"}, "INSERT into u has 2 indexes more to keep (3 to 5)"),
+            (3, {"c"}, f"{both}; UPDATEs of a can't be HOT any more)"),
+            (4, {"c"}, f"{both}; UPDATEs of a and b can't be HOT any more)"),
+            (4, {"E"}, f"{both}; UPDATEs of b can't be HOT any more)"),
+            (4, {"a", "b"}, f"{both})"),
+        ):
+            with self.subTest(count=count, old=old):
+                found = writes_of(picks, texts[:count], {}, {"u": (3, old)})
+                self.assertEqual(told(found), [f"writes: {wanted}"])
 
     def test_the_columns_that_an_update_sets_are_those_of_its_tokens(self) -> None:
         for text, wanted in (
@@ -67,8 +92,35 @@ class Writes(unittest.TestCase):
         ):
             for column in ("a", "b", "c", "d", "e", "f", "order"):
                 with self.subTest(text=text, column=column):
-                    found = writes_of([reason(1, "u", {})], [text], {1: 9}, {"u": 1}, {"u": {column}})
+                    found = writes_of([reason(1, "u", {})], [text], {1: 9}, {"u": (1, {column})})
                     self.assertEqual(bool(found), column in wanted.split())
+
+
+@unittest.skipIf(missing(), missing())
+class Indexes(unittest.TestCase):
+    def test_the_columns_of_an_index_are_all_that_it_has_to_do_with(self) -> None:
+        from cophy_pg.server import connected, reading
+        from cophy_pg.writes import indexes_of
+
+        server = PrivateServer()
+        self.addCleanup(server.stop)
+        server.psql(
+            """CREATE TABLE t (a int PRIMARY KEY, "B" int, c int[], d text, e int, f int, g int); CREATE TABLE u (a int);
+            CREATE INDEX ON t ("B") INCLUDE (e); CREATE INDEX ON t USING gin (c); CREATE INDEX ON t (lower(d)) WHERE f > 1"""
+        )
+        with mock.patch.dict(os.environ, server.environment()), connected() as session, reading(session):
+            tables = [
+                Table(
+                    "public",
+                    it,
+                    it.upper(),
+                    oid=int(session.value("SELECT %s::regclass::oid::int8", (f"public.{it}",))),
+                )
+                for it in ("t", "u")
+            ]
+            tables[0].columns = {it: Column(it, it.upper()) for it in "aBcdefg"}
+            found = indexes_of(session, tables)
+        self.assertEqual(found, {"T": (4, {*"ABCDEF"}), "U": (0, set())})
 
 
 if __name__ == "__main__":

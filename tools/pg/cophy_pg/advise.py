@@ -54,7 +54,7 @@ from cophy_pg.verify import advice_text, as_json, look_up
 from cophy_pg.walks import take_back
 from cophy_pg.why import reasons
 from cophy_pg.workload import Workload, made
-from cophy_pg.writes import indexes_of
+from cophy_pg.writes import Indexed, indexes_of
 
 UNPROVED = "the program is unproved: no proof says that its costs and bounds are those of the model"
 NOTHING = 3
@@ -103,7 +103,7 @@ class Run:
         self.rules = Rules()
         self.head: dict[str, Any] = {}
         self.owners: dict[str, str] = {}
-        self.indexes: dict[str, int] = {}
+        self.indexes: dict[str, Indexed] = {}
         self.warnings: list[str] = []
 
     def document(self) -> dict[str, Any]:
@@ -173,13 +173,12 @@ class Run:
         return plans, hints
 
     def _tell_owners(self, server: Server, schema: Schema, picked: set[str]) -> None:
-        """Who owns the tables of picks and hints, the owner of the most first, and how many indexes they have."""
+        """Who owns the tables of picks and hints, the owner of the most first, and what indexes they have."""
         tables = [it for it in schema.tables.values() if it.shown in picked]
         with reading(server):
             found = owners_of(server, [it.oid for it in tables])
-            had = indexes_of(server, [it.oid for it in tables])
+            self.indexes = indexes_of(server, tables)
             self.head["database_owner"] = database_owner(server)
-        self.indexes = {it.shown: had.get(it.oid, 0) for it in tables}
         counts = Counter(found.values())
         self.head["owners"] = sorted(counts, key=lambda it: (-counts[it], it))
         self.owners = {it.shown: found[it.oid] for it in tables if it.oid in found}

@@ -27,7 +27,7 @@ from cophy_pg.walks import walks_told
 from cophy_pg.why import Reason
 from cophy_pg.workload import Record, Workload
 from cophy_pg.worth import worth_of
-from cophy_pg.writes import indexed_in, writes_of
+from cophy_pg.writes import Indexed, writes_of
 
 VACUUM = (
     "plans read it without its table, which takes pages that VACUUM has marked: where many rows change, VACUUM often, "
@@ -37,7 +37,7 @@ VACUUM = (
 
 @dataclass
 class Result:
-    """What each step found. `indexes` says how many a table of the picks has. `prices` are ours without picks, with those that
+    """What each step found. `indexes` are those that a table of the picks has. `prices` are ours without picks, with those that
     stay, and with all of the advice; a price of ours is in thousandths of a page read."""
 
     schema: Schema
@@ -53,7 +53,7 @@ class Result:
     told: dict[str, list[str]]
     seconds: dict[str, float] = field(default_factory=dict)
     owners: dict[str, str] = field(default_factory=dict)
-    indexes: dict[str, int] = field(default_factory=dict)
+    indexes: dict[str, Indexed] = field(default_factory=dict)
     recommended: Recommended | None = None
     hints: list[Hint] = field(default_factory=list)
 
@@ -132,7 +132,7 @@ class Result:
             calls.update({at: it.input.calls for at in it.numbers})
         advised = [it for it in self.reasons if not self._caveat(it.pick.number)]
         texts = [text for text, _ in self.workload.statements]
-        return writes_of(advised, texts, calls, self.indexes, indexed_in(self.schema))
+        return writes_of(advised, texts, calls, self.indexes)
 
     def plain_picks(self) -> list[dict[str, Any]]:
         """The picks, those that are recommended first, and of each those that save the most."""

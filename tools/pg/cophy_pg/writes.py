@@ -6,43 +6,41 @@ from typing import Any
 
 from cophy_text.shown import in_row
 from cophy_text.tokens import Token, tokens
-from cophy_pg.schema import Schema
+from cophy_pg.schema import Table
 from cophy_pg.server import Server
 from cophy_pg.why import Reason
 
 PLACES = {"INSERT": "into", "UPDATE": "of", "DELETE": "from"}
 MOST_TABLES = 2
 """So many tables are named, those that are written the most often."""
+# The columns in an expression or a condition of an index are known by what it depends on.
 _INDEXES = """
-SELECT indrelid::pg_catalog.int8, pg_catalog.count(*) FROM pg_catalog.pg_index
-WHERE indrelid = ANY(%s::pg_catalog.oid[]) GROUP BY indrelid"""
+SELECT i.indrelid::int8, count(DISTINCT i.indexrelid), array_agg(DISTINCT a.attname::text)
+FROM pg_index i LEFT JOIN pg_attribute a ON a.attrelid = i.indrelid AND (a.attnum = ANY(i.indkey) OR EXISTS (
+    SELECT FROM pg_depend d WHERE d.classid = 'pg_class'::regclass AND d.objid = i.indexrelid
+        AND d.refclassid = 'pg_class'::regclass AND d.refobjid = i.indrelid AND d.refobjsubid = a.attnum))
+WHERE i.indrelid = ANY(%s::oid[]) GROUP BY i.indrelid"""
+Indexed = tuple[int, set[str]]
+"""How many indexes a table has, and the columns that they have to do with, by their names in the catalogue."""
 
 
-def indexes_of(server: Server, tables: Sequence[int]) -> dict[int, int]:
-    """How many indexes each table has, of those that have some."""
-    return {int(oid): int(count) for oid, count in server.rows(_INDEXES, ([*tables],))}
-
-
-def indexed_in(schema: Schema) -> dict[str, set[str]]:
-    """The columns of each table that have indexes, by their names in the catalogue."""
-    found = dict[str, set[str]]()
-    for table in schema.tables.values():
-        keys = {key for it in table.indexes for key in it.keys}
-        found[table.shown] = {table.columns[it].shown if it in table.columns else it for it in keys}
+def indexes_of(server: Server, tables: Iterable[Table]) -> dict[str, Indexed]:
+    """What indexes each table has, by its name in the catalogue."""
+    by_number = {it.oid: it for it in tables}
+    found: dict[str, Indexed] = {it.shown: (0, set()) for it in by_number.values()}
+    for oid, count, names in server.rows(_INDEXES, ([*by_number],)):
+        table = by_number[int(oid)]
+        found[table.shown] = int(count), {table.columns[it].shown for it in names if it in table.columns}
     return found
 
 
 def writes_of(
-    picks: Iterable[Reason],
-    texts: Sequence[str],
-    calls: Mapping[int, int],
-    before: Mapping[str, int],
-    indexed: Mapping[str, set[str]],
+    picks: Iterable[Reason], texts: Sequence[str], calls: Mapping[int, int], indexes: Mapping[str, Indexed]
 ) -> list[dict[str, Any]]:
     """Of each table of the picks the writes that have more indexes to keep, the most called first: those that cost
-    more by our model, and each UPDATE that sets an indexed column, since its rows get entries in all indexes. The
-    texts are those of the workload, `calls` go by their numbers, `before` has how many indexes a table has, and
-    `indexed` the columns of these."""
+    more by our model, and each UPDATE that sets an indexed column, since its rows get entries in all indexes; where
+    only new indexes have such a column, it could be HOT. The texts are those of the workload, `calls` go by their
+    numbers, and `indexes` are those that a table has."""
     statements, tables = [_tokens(it) for it in texts], dict[str, list[Reason]]()
     commands = {at: listed[0].word for at, listed in enumerate(statements, 1)}
     for it in picks:
@@ -50,16 +48,19 @@ def writes_of(
     found = []
     for table, listed in tables.items():
         paying = [{at for at, change in it.changes.items() if change < 0} for it in listed]
-        columns = {name.lower() for name in indexed.get(table, set()).union(*(it.pick.columns for it in listed))}
+        before, indexed = indexes.get(table, (None, set[str]()))
+        old, new = {it.lower() for it in indexed}, {name for it in listed for name in it.pick.columns}
+        sets = {at: _set_by(it, table) for at, it in enumerate(statements, 1)}
+        changed = set[str]().union(*(it for it in sets.values() if not it & old))
         moving = {at for at in set[int]().union(*paying) if commands[at] == "UPDATE"}
-        moving |= {at for at, statement in enumerate(statements, 1) if _set_by(statement, table) & columns}
+        moving |= {at for at, it in sets.items() if it & old.union(map(str.lower, new))}
         paying = [it | moving for it in paying]
         writes = {at: commands[at] for at in set[int]().union(*paying) if commands[at] in PLACES}
         if writes:
             shown = [it for it in PLACES if it in writes.values()]
             row = {"command": in_row(shown), "table": table, "calls": sum(calls.get(it, 0) for it in writes)}
-            more = {"kept": sum(bool(it & {*writes}) for it in paying), "new": len(listed), "before": before.get(table)}
-            found.append(row | more)
+            more = {"kept": sum(bool(it & {*writes}) for it in paying), "new": len(listed), "before": before}
+            found.append(row | more | {"not_hot": sorted(it for it in new if it.lower() in changed)})
     return sorted(found, key=lambda it: (-it["calls"], it["table"]))
 
 
@@ -90,4 +91,6 @@ def _told(it: dict[str, Any]) -> str:
     count, before, command = it["kept"], it["before"], it["command"]
     have = "has" if command in PLACES else "have"
     text = f"{command} {PLACES.get(command, 'of')} {it['table']} {have} {count} index{'es' * (count != 1)} more to keep"
-    return text if before is None or count < it["new"] else f"{text} ({before} to {before + count})"
+    notes = [f"{before} to {before + count}"] if before is not None and count == it["new"] else []
+    notes += [f"UPDATEs of {in_row(it['not_hot'])} can't be HOT any more"] if it["not_hot"] else []
+    return f"{text} ({'; '.join(notes)})" if notes else text
