@@ -134,7 +134,7 @@ class Summary(OverDocument):
     def test_how_one_index_is_left_out_is_told_below_them(self) -> None:
         from cophy_pg.overview import lines_of
 
-        line = "psql passes over numbers of your choice with -v without=N,N"
+        line = "to leave some out, run the script with psql -v without=N,N, their numbers"
         self.assertNotIn(line, lines_of(self.document))
         self.document["picks"] *= 2
         self.assertIn(line, lines_of(self.document))

@@ -131,7 +131,7 @@ def _hints(document: dict[str, Any]) -> list[str]:
     if unadvised:
         lines += [f"{in_row([str(at) for at in unadvised])} not recommended: the script makes such with -v all=1 alone"]
     if len(picks) > 1:
-        lines += ["psql passes over numbers of your choice with -v without=N,N"]
+        lines += ["to leave some out, run the script with psql -v without=N,N, their numbers"]
     return [*lines, ""] if lines else []
 
 
