@@ -35,8 +35,15 @@ class Recommended(unittest.TestCase):
 
         charged = [change(1, "SELECT 1", 30.0, 20.0), change(2, "UPDATE t", -16.0, 0.0)]
         little = [change(1, "SELECT 1", 0.01, 20.0), change(2, "UPDATE t", -0.01, 0.0)]
+        # By our model it saves little cost, but of statements that have much of the time.
+        timed = {"ours": 0.2, "server": 0.0, "measured": 3.0}
         for given, why in (
             (pick(1, 20.0, 10.0), ""),
+            (
+                pick(1, 0, 0, saves=timed | {"planned": 0.1}),
+                "it saves 0.1 % of the measured time: probably not worth 1.0 MB",
+            ),
+            (pick(1, 0, 0, saves=timed | {"planned": 0.9}), ""),
             (pick(1, 0.4, 0.9), "it saves 0.9 % at most, by any measure"),
             (pick(1, 27.0, 3.3), "the server saves 3.3 %: probably not worth 1.0 MB"),
             (pick(1, 14.0, 20.0, changes=charged), "writes take 53.3 % of what it saves"),

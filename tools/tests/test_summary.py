@@ -4,7 +4,7 @@ from __future__ import annotations
 import unittest
 
 from summaries import OverDocument
-from test_page import MISSING
+from test_page import MISSING, change
 
 
 @unittest.skipIf(MISSING, MISSING)
@@ -130,6 +130,14 @@ class Summary(OverDocument):
         self.assertIn(text + more, lines_of(self.document))
         self.document |= {"unused": "5.0 MB stay free: so it is", "knee": "of all"}
         self.assertEqual(lines_of(self.document)[-2:], ["5.0 MB stay free: so it is", "of all"])
+
+    def test_what_gains_too_little_to_be_seen_is_told_of_the_cost(self) -> None:
+        from cophy_pg.overview import lines_of
+
+        self.document["picks"][0]["changes"] = [change(1, "SELECT 1", 0.04, 0.03)]
+        self.assertTrue(
+            any(it.endswith("  less than 0.1 % of the cost in each statement") for it in lines_of(self.document))
+        )
 
     def test_how_one_index_is_left_out_is_told_below_them(self) -> None:
         from cophy_pg.overview import lines_of

@@ -66,9 +66,10 @@ def saved_of(pick: dict[str, Any]) -> float:
 
 def doubt_of(pick: dict[str, Any]) -> str:
     """What there is to say of a pick that by the server, of the cost and of the measured time, saves far less than by our model."""
-    ours, server, time = (pick["saves"].get(it) or 0.0 for it in ("ours", "server", "planned"))
+    kinds = ("ours", "measured", "server", "planned")
+    *ours, server, time = (float(pick["saves"].get(it) or 0.0) for it in kinds)
     saved = max(server, time)
-    if not is_judged(pick) or saved >= FEW or ours < max(LITTLE, FAR * saved):
+    if not is_judged(pick) or saved >= FEW or max(ours) < max(LITTLE, FAR * saved):
         return ""
     what = f"it saves {percent(time)} of the measured time" if time > server else f"the server saves {percent(server)}"
     return f"{what}: probably not worth {space(pick['stored_pages'])}"

@@ -235,7 +235,7 @@ def _for(pick: dict[str, Any], document: dict[str, Any]) -> str:
     """The statement that gains the most by a pick, and which others gain or lose."""
     found = gains(pick)
     if not found:
-        return "less than 0.1 % in each statement"
+        return "less than 0.1 % of the cost in each statement"
     first, *others = found
     losing = [it for it in pick["changes"] if is_seen(it) and it not in found]
     text = f"{name_of(first)}, {_measured_time([first])}: {purpose(pick, first, document, SQL)}"
