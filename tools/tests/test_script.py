@@ -266,7 +266,9 @@ class Script(OverOwn):
         text = self.script(("plain(a)", "plain(b)", "parted(kind, day)"), "--unadvised", "2,3")
         self.assertIn("-- 2. plain(b): not recommended\n", text)
         said = self.run_script(text)
-        self.assertRegex(said, r"\A1: .*\nnot made: 2\. plain\(b\), 3\. parted\(kind, day\)\ndone\n\Z")
+        others = r"2\. plain\(b\) \(not recommended\), 3\. parted\(kind, day\) \(not recommended\)\ndone\n\Z"
+        self.assertRegex(said, rf"\A1: .*\nnot made: {others}")
+        self.assertRegex(self.run_script(text, "-v", "without=1"), rf"not made: 1\. plain\(a\), {others}")
         self.assertEqual(self.names(), ["plain_a_idx"])
         self.assertNotIn("not made", self.run_script(text, "-v", "all=1"))
         self.assertEqual([it for it in self.names() if it.startswith("plain")], ["plain_a_idx", "plain_b_idx"])

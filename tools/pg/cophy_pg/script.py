@@ -56,9 +56,14 @@ def _text(
             *_about(schema, it, it.place in unadvised, gains.get(it.pick.shown(), "")),
             *_steps(schema, it, speed),
         ]
-    names = ",".join(written_text(f"{it.place}.{it.pick.shown().replace(', ', ',')}") for it in listed)
+    names = ",".join(written_text(_passed(it, it.place in unadvised)) for it in listed)
     passed = [f"EXECUTE cophy_passed (ARRAY[{names}]);"] * bool(listed)
     return _marked("\n".join([*lines, "", STOP, TELL, *passed, "\\echo done", ""]))
+
+
+def _passed(made: Made, is_unadvised: bool) -> str:
+    """How a pick that is passed over is named, without the blanks that the script adds."""
+    return f"{made.place}.{made.pick.shown().replace(', ', ',')}{'~(not~recommended)' * is_unadvised}"
 
 
 def _about(schema: Schema, made: Made, is_unadvised: bool, gain: str) -> list[str]:

@@ -87,10 +87,10 @@ GO_ON, STOP = "\\set ON_ERROR_STOP :is_undo", "\\set ON_ERROR_STOP on"
 TELL = """DO 'BEGIN IF current_setting(''cophy.fault'') <> '''' THEN RAISE EXCEPTION ''%'', current_setting(''cophy.fault''); END IF; END';"""
 """Ends the script with what wasn't made."""
 PASSED = rf"""PREPARE cophy_passed (text[]) AS {OWN}
-SELECT 'not made: '||string_agg(regexp_replace(name,'([.,])','\1 ','g'),', ') FROM unnest($1) name
+SELECT 'not made: '||string_agg(regexp_replace(replace(name,'~',' '),'([.,])','\1 ','g'),', ') FROM unnest($1) name
 WHERE NOT :'is_undo' AND :'without'~('\m'||split_part(name,'.',1)||'\M') HAVING count(*)>0;
 """
-"""Names what was passed over."""
+"""Names what was passed over; a `~` in it stands for a blank."""
 STATE = f"PREPARE cophy_state (text, text, text, text[]) AS {OWN}\n{_STATE};\n"
 # Each part of a partitioned table with its index and that of the part above, by names of at most 63 bytes.
 PARTS = f"""PREPARE cophy_parts (int, text, text, text, text) AS {OWN}
