@@ -5,22 +5,28 @@ from cophy_pg.server import OWN
 
 BRIEF, PATIENT = "5s", "30min"
 
-_STATE = """SELECT count(*) FILTER (WHERE NOT is_it) > 0 AS is_other, count(*) FILTER (WHERE is_it AND is_valid) > 0 AS is_there,
+IS_VALID = "i.indisvalid AND i.indisready"
+IS_PLAIN = "i.indisvalid>=i.indisunique AND i.indpred IS NULL"
+IS_BEING_MADE = "EXISTS(SELECT FROM pg_stat_progress_create_index WHERE index_relid=i.indexrelid)"
+COLUMNS = """ARRAY(
+        SELECT coalesce(a.attname::text,regexp_replace(pg_get_indexdef(i.indexrelid,k.at::int4,true),'::text[)]$',')'),'')
+        FROM unnest(i.indkey::int2[]) WITH ORDINALITY k(number, at)
+        LEFT JOIN pg_attribute a ON a.attrelid = i.indrelid AND a.attnum = k.number ORDER BY k.at)"""
+"""How an index `i` of pg_index stands, to the script and to `effect`: one that isn't plain is partial, or was to be unique
+and is INVALID, which no script leaves. A function of a column is shown without the cast to text that PostgreSQL has there."""
+_STATE = f"""SELECT count(*) FILTER (WHERE NOT is_it) > 0 AS is_other, count(*) FILTER (WHERE is_it AND is_valid) > 0 AS is_there,
     count(*) FILTER (WHERE is_it AND NOT is_valid) > 0 AS is_invalid,
     count(*) FILTER (WHERE is_it AND (NOT is_valid OR mark = :'mark')) > 0 AS is_own
 FROM (
-    SELECT i.indisvalid AND i.indisready AS is_valid, obj_description(c.oid, 'pg_class') AS mark,
-        coalesce((m.nspname,t.relname,c.relam)=($1,$3,403) AND i.indisvalid>=i.indisunique AND i.indpred IS NULL
-        AND 0=(SELECT count(*) FROM pg_stat_progress_create_index WHERE index_relid=c.oid) AND $4=ARRAY(
-        SELECT coalesce(a.attname::text,regexp_replace(pg_get_indexdef(c.oid,k.at::int4,true),'::text[)]$',')'))
-        FROM unnest(i.indkey::int2[]) WITH ORDINALITY k(number, at)
-        LEFT JOIN pg_attribute a ON a.attrelid = i.indrelid AND a.attnum = k.number ORDER BY k.at), false) AS is_it
+    SELECT {IS_VALID} AS is_valid, obj_description(c.oid, 'pg_class') AS mark,
+        coalesce((m.nspname,t.relname,c.relam)=($1,$3,403) AND {IS_PLAIN}
+        AND NOT {IS_BEING_MADE} AND $4={COLUMNS}, false) AS is_it
     FROM pg_class c JOIN pg_namespace n ON n.oid = c.relnamespace LEFT JOIN pg_index i ON i.indexrelid = c.oid
     LEFT JOIN pg_class t ON t.oid = i.indrelid LEFT JOIN pg_namespace m ON m.oid = t.relnamespace
     WHERE (n.nspname,c.relname)=($1,$2)) found"""
-"""Whether an index is there, and as what: its schema, its name, its table and its columns, or its function of one,
-which PostgreSQL shows with a cast to text, are the parameters. Another are a partial one, one that is no B-tree (that
-is 403 on each server), what another session is making, and one that was to be unique and is INVALID, which no script leaves."""
+"""Whether an index is there, and as what: its schema, its name, its table and its columns, or its function of one, are
+the parameters. Another are one that isn't plain, one that is no B-tree (that is 403 on each server), and what another
+session is making."""
 BEGIN = f"""\\set QUIET on
 \\set ON_ERROR_STOP on
 \\set AUTOCOMMIT on

@@ -9,25 +9,21 @@ from cophy_text.answers import Candidate
 from cophy_pg.closing import is_hint, rows_of
 from cophy_pg.ddl import Applied, Laid, Made, Named, create, taken_names
 from cophy_pg.schema import Schema
+from cophy_pg.script_sql import COLUMNS, IS_BEING_MADE, IS_PLAIN, IS_VALID
 from cophy_pg.server import Row, Server
 
 THERE, INVALID, BEING_MADE = "there", "INVALID", "being made"
 OTHER, NOT_LAID, NOT_MADE = "name taken", "not clustered", "not made"
 _WORST = (INVALID, OTHER, BEING_MADE, NOT_MADE, NOT_LAID)
 """What is told of a pick for which several indexes stand is the first of these that one is."""
-# The script knows its indexes by the same: the name, the table, the columns, no condition.
-_INDEXES = """
+_INDEXES = f"""
 SELECT w.nspname::text, x.relname::text, coalesce(n.nspname::text, ''), coalesce(t.relname::text, ''),
-    i.indisvalid AND i.indisready, i.indisclustered,
-    coalesce(i.indpred IS NULL AND i.indisvalid >= i.indisunique, false), coalesce(m.amname = 'btree', false),
-    EXISTS (SELECT FROM pg_stat_progress_create_index p WHERE p.index_relid = x.oid),
-    ARRAY(SELECT coalesce(a.attname::text, pg_get_indexdef(x.oid, k.at::int4, true), '')
-        FROM unnest(i.indkey::int2[]) WITH ORDINALITY k(number, at)
-        LEFT JOIN pg_attribute a ON a.attrelid = i.indrelid AND a.attnum = k.number AND k.number <> 0 ORDER BY k.at),
+    {IS_VALID}, i.indisclustered, coalesce({IS_PLAIN}, false), x.relam = 403, {IS_BEING_MADE},
+    {COLUMNS},
     (WITH RECURSIVE parts(oid) AS (
         SELECT x.oid UNION ALL SELECT h.inhrelid FROM pg_inherits h JOIN parts p ON h.inhparent = p.oid)
     SELECT coalesce(sum(pg_stat_get_numscans(p.oid)), 0)::int8 FROM parts p WHERE x.relkind IN ('i', 'I'))
-FROM pg_class x JOIN pg_namespace w ON w.oid = x.relnamespace LEFT JOIN pg_am m ON m.oid = x.relam
+FROM pg_class x JOIN pg_namespace w ON w.oid = x.relnamespace
 LEFT JOIN pg_index i ON i.indexrelid = x.oid LEFT JOIN pg_class t ON t.oid = i.indrelid
 LEFT JOIN pg_namespace n ON n.oid = t.relnamespace
 WHERE (w.nspname, x.relname) IN (SELECT * FROM unnest(%s::text[], %s::text[]))
