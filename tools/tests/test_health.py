@@ -48,6 +48,28 @@ CREATE INDEX w5 ON wide (e, a); CREATE INDEX w6 ON wide (f, b); CREATE INDEX w7 
 CREATE INDEX w9 ON wide (b, g);
 VACUUM ANALYZE;
 """
+KEYS = """CREATE TABLE city (id int, kind int, PRIMARY KEY (id, kind), UNIQUE (id));
+INSERT INTO city SELECT i, i % 3 FROM generate_series(1, 90) i;
+CREATE TABLE bill (id int, city int REFERENCES city (id), home int REFERENCES city (id), kind int, at date, note text,
+    CONSTRAINT bill_both FOREIGN KEY (home, kind) REFERENCES city (id, kind), CONSTRAINT bill_id FOREIGN KEY (id) REFERENCES city (id));
+INSERT INTO bill SELECT 1 + i % 90, 1 + i % 90, 1 + i % 90, (1 + i % 90) % 3, date '2021-01-01' + i % 500, md5(i::text)
+    FROM generate_series(1, 60000) i;
+CREATE INDEX a_city ON bill (city, at, note); CREATE INDEX b_city ON bill (city); CREATE INDEX c_city ON bill (city);
+CREATE INDEX a_home ON bill (home); CREATE INDEX b_home ON bill (kind, home, at); CREATE INDEX c_home ON bill (home, kind, at);
+CREATE INDEX only_id ON bill (id, note); CREATE INDEX some_id ON bill (id) WHERE at IS NULL; CREATE INDEX a_note ON bill (note);
+CREATE TABLE letter (id int, city int REFERENCES city (id), at date) PARTITION BY RANGE (id);
+CREATE TABLE letter_1 PARTITION OF letter FOR VALUES FROM (0) TO (9999);
+CREATE INDEX letter_city ON letter (city); CREATE INDEX letter_1_city_at ON letter_1 (city, at);
+CREATE TABLE note (id int, city int) PARTITION BY RANGE (id);
+CREATE TABLE note_1 PARTITION OF note FOR VALUES FROM (0) TO (9999);
+CREATE TABLE note_2 PARTITION OF note FOR VALUES FROM (9999) TO (19999);
+ALTER TABLE note_1 ADD CONSTRAINT note_1_city FOREIGN KEY (city) REFERENCES city (id);
+CREATE INDEX note_city ON note (city); CREATE INDEX note_id ON note (id);
+INSERT INTO letter SELECT i, 1 + i % 90 FROM generate_series(1, 3000) i;
+INSERT INTO note SELECT id, city FROM letter;
+DELETE FROM bill WHERE at > '2021-02-01';
+VACUUM ANALYZE;
+"""
 SCANS = """SET enable_seqscan = off; SET enable_bitmapscan = off;
 SELECT count(*) FROM people WHERE boss = 3; SELECT count(*) FROM people WHERE name = 'Name 7' AND born = '1999-01-01';
 SELECT count(*) FROM part WHERE day = '2021-05-05';
@@ -154,6 +176,24 @@ class Health(OverOwn):
             "letter_city_fkey": 'CREATE INDEX ON "public"."letter" ("city");',
         }
         self.assertEqual(statements, wanted)
+
+    def test_no_foreign_key_loses_its_last_index(self) -> None:
+        self.server.psql("CREATE DATABASE keys")
+        self.addCleanup(self.server.psql, "DROP DATABASE keys")
+        self.server.psql(KEYS + ADVISOR.read_text(), "keys")
+        found = json.loads(self.health("--json", status=3, database="keys").stdout)
+        self.assertEqual(found["foreign_keys"], [])
+        gone = {it["name"] for it in found["indexes"] if it["may_go"]}
+        others = {"some_id", "a_note", "letter_1_city_at", "note_id"}
+        self.assertEqual(gone, {"a_city", "c_city", "c_home", *others})
+        kept = {it["name"]: it for it in found["indexes"]}["only_id"]
+        self.assertEqual({*kept["reasons"]}, {"serves", "bloated"})
+        said = "no scan was counted, but of those that stay it alone serves 'bill_id', a foreign key"
+        self.assertEqual(kept["reasons"]["serves"], said)
+        self.assertIn("REINDEX INDEX", kept["statement"])
+        # What it says is done, and there is nothing more to say.
+        self.server.psql("\n".join(it["statement"] for it in found["indexes"]), "keys")
+        self.assertRegex(self.health(database="keys").stdout, r"^-- of \d+ indexes 0 to look at\n\Z")
 
     def test_the_text_is_all_comments(self) -> None:
         text = self.health(status=3).stdout

@@ -38,13 +38,15 @@ GROUP BY 1, 2, 3, 4, 5, 6"""
 _KEYS = f"""
 SELECT k.conname::text, n.nspname::text, c.relname::text, c.relkind::text, s.nspname::text, r.relname::text,
     ARRAY(SELECT a.attname::text FROM unnest(k.conkey) WITH ORDINALITY u(number, at)
-        JOIN pg_attribute a ON a.attrelid = k.conrelid AND a.attnum = u.number ORDER BY u.at), c.reltuples::float8
+        JOIN pg_attribute a ON a.attrelid = k.conrelid AND a.attnum = u.number ORDER BY u.at), c.reltuples::float8, v.serving
 FROM pg_constraint k JOIN pg_class c ON c.oid = k.conrelid JOIN pg_namespace n ON n.oid = c.relnamespace
 JOIN pg_class r ON r.oid = k.confrelid JOIN pg_namespace s ON s.oid = r.relnamespace
-WHERE k.contype = 'f' AND NOT c.relispartition AND {catalogs.OWN} AND NOT EXISTS (
-    SELECT FROM pg_index i JOIN pg_class x ON x.oid = i.indexrelid JOIN pg_am m ON m.oid = x.relam
+CROSS JOIN LATERAL (SELECT ARRAY(
+    SELECT coalesce(pg_partition_root(x.oid), x.oid)::int8
+    FROM pg_index i JOIN pg_class x ON x.oid = i.indexrelid JOIN pg_am m ON m.oid = x.relam
     WHERE i.indrelid = k.conrelid AND i.indisvalid AND i.indpred IS NULL AND m.amname = 'btree'
-        AND (i.indkey::int2[])[0:least(cardinality(k.conkey), i.indnkeyatts::int4) - 1] @> k.conkey)
+        AND (i.indkey::int2[])[0:least(cardinality(k.conkey), i.indnkeyatts::int4) - 1] @> k.conkey) AS serving) v
+WHERE k.contype = 'f' AND (NOT c.relispartition OR cardinality(v.serving) > 0) AND {catalogs.OWN}
 ORDER BY c.reltuples DESC, 2, 3, 1"""
 _SINCE = """
 SELECT coalesce(to_char(stats_reset AT TIME ZONE 'UTC', 'YYYY-MM-DD HH24:MI'), ''),
@@ -100,7 +102,8 @@ class Column:
 
 @dataclass
 class Key:
-    """A foreign key that no index serves: its name, its table, the table that it refers to, its columns, and rows."""
+    """A foreign key: its name, its table, the table that it refers to, its columns, rows, and the indexes that serve it, by
+    number; of a partition one that is served alone."""
 
     name: str
     schema: str
@@ -109,11 +112,12 @@ class Key:
     columns: list[str]
     rows: float
     is_partitioned: bool
+    serving: list[int]
 
 
 @dataclass
 class Everything:
-    """The indexes of a database, the columns of their tables, foreign keys without an index, and since when scans count."""
+    """The indexes of a database, the columns of their tables, foreign keys, and since when scans count."""
 
     indexes: list[Existing]
     columns: dict[int, dict[int, Column]]
@@ -142,9 +146,10 @@ def read_everything(server: Server) -> Everything:
         column = Column(str(name), str(alignment), int(length), str(kind), *given)
         columns.setdefault(int(oid), {})[int(number)] = column
     keys = []
-    for name, schema, table, kind, other_schema, other, listed, rows in server.rows(_KEYS):
+    for name, schema, table, kind, other_schema, other, listed, rows, serving in server.rows(_KEYS):
         other_name = str(other) if other_schema == schema else f"{other_schema}.{other}"
-        keys.append(Key(str(name), str(schema), str(table), other_name, [*map(str, listed)], float(rows), kind == "p"))
+        own = (str(name), str(schema), str(table), other_name, [*map(str, listed)])
+        keys.append(Key(*own, float(rows), kind == "p", [*map(int, serving)]))
     since, days = (server.rows(_SINCE) or [("", None)])[0]
     told = [f"{by_oid[oid].schema!a}.{by_oid[oid].name!a}: {fault.shown()}" for oid, fault in faults.items()]
     return Everything(indexes, columns, keys, str(since), _known(float, days), told)

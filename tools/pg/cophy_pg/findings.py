@@ -3,7 +3,7 @@ from __future__ import annotations
 
 from dataclasses import dataclass, field
 
-from cophy_pg.existing import Column, Everything, Existing
+from cophy_pg.existing import Column, Everything, Existing, Key
 from cophy_pg.stored import ALIGNMENTS, LONG, NOT_SHARED, Part, pages
 
 BLOATED, LEAST_WASTE = 2.0, 128
@@ -13,6 +13,8 @@ UNATTACHED = "unattached"
 """Of a partitioned table an index that some partition has no part of. The others' parts go with it, so it may not go."""
 DROPPED = (INVALID, DUPLICATE, PREFIX, UNUSED)
 """The kinds of findings for which an index may go."""
+SERVES = "serves"
+"""Why an index that has no scans stays."""
 
 
 @dataclass
@@ -53,10 +55,24 @@ def findings(found: Everything) -> list[Finding]:
             listed[it.oid].reasons[UNUSED] = "no scan was counted" + (
                 f" since {found.since} UTC" if found.since else ""
             )
+    for key in sorted(found.keys, key=lambda it: len(it.serving)):
+        _keep_one(key, [listed[it] for it in key.serving if it in listed])
+    for it in found.indexes:
         _measure(it, found.columns.get(it.table_oid, {}))
         if it.pages is not None and it.expected is not None and _is_bloated(it.pages, it.expected):
             listed[it.oid].reasons[BLOAT] = f"{it.pages / it.expected:.1f} times as large as a fresh one would be"
-    return sorted((it for it in listed.values() if it.reasons), key=lambda it: (-(it.index.pages or 0), it.index.oid))
+    told = (it for it in listed.values() if {*it.reasons} - {SERVES})
+    return sorted(told, key=lambda it: (-(it.index.pages or 0), it.index.oid))
+
+
+def _keep_one(key: Key, serving: list[Finding]) -> None:
+    """Where all indexes that serve a foreign key may go, the smallest valid one stays."""
+    valid = [it for it in serving if it.index.is_valid]
+    if valid and all(it.may_go() for it in serving):
+        kept = min(valid, key=lambda it: (it.index.pages is None, it.index.pages or 0, it.index.oid))
+        kept.reasons = {
+            SERVES: f"no scan was counted, but of those that stay it alone serves {key.name!a}, a foreign key"
+        }
 
 
 def _name(it: Existing) -> str:

@@ -55,7 +55,7 @@ def health(words: argparse.Namespace) -> int:
     every = findings(everything)
     found = [it for it in every if not it.is_small(words.min_size)]
     few = len(every) - len(found)
-    keys = [it for it in everything.keys if it.rows >= LEAST_ROWS]
+    keys = [it for it in everything.keys if it.rows >= LEAST_ROWS and not it.serving]
     prices = _prices(words, found) if words.folder else {}
     for it in everything.faults:
         say(f"warning: {it}, so its size or its scans aren't known")
