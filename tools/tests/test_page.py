@@ -1,26 +1,20 @@
-"""`cophy-pg report`: the page of a folder, as text and in a browser."""
+"""`cophy-pg report`: the page of a folder, as text."""
 from __future__ import annotations
 
-import html
 import importlib.util
 import json
-import os
 import re
-import shutil
 import stat
-import subprocess
 import unittest
 from pathlib import Path
 from typing import Any
 
 from fixtures import ROOT, InFolder
-from patience import LONG
 from schema_check import faults
 
 MISSING = next(
     (f"python3-{it} isn't installed" for it in ("jinja2", "pglast") if importlib.util.find_spec(it) is None), ""
 )
-BROWSER = shutil.which("chromium") or shutil.which("google-chrome")
 SCHEMA = json.loads((ROOT / "tools" / "pg" / "cophy_pg" / "advice.schema.json").read_text())
 ODD = "SELECT a FROM t WHERE b = '<script>alert(1)</script>{{ 7 * 7 }}\u202e\x1b&'"
 
@@ -332,65 +326,6 @@ class Page(InFolder):
             (self.folder / "advice.json").write_text(content)
             self.assertIn("is no folder of cophy-pg advise", self.call(str(self.folder), status=1))
         self.call(str(self.folder / "nothing"), status=1)
-
-    @unittest.skipUnless(BROWSER, "chromium isn't installed")
-    def test_a_browser_shows_it_without_errors_at_any_width(self) -> None:
-        points = [{"budget": at, "size": at, "cost": 90 - at, "bound": 80 - at, "picks": []} for at in (0, 50)]
-        (self.folder / "curve.json").write_text(json.dumps(points))
-        text = self.page()
-        said = self.browse(self.folder / "report.html", 1280, "--dump-dom")
-        self.assertIn("Statements before and after", said.stdout)
-        self.assertNotIn("CONSOLE", said.stderr)
-        # A window has a least width, so a copy is measured in a frame. All is opened there.
-        inner = re.sub(r"<meta http-equiv=.*>\n", "", text).replace("<details ", "<details open ")
-        script = """function measure(frame) {
-            const root = frame.contentDocument.documentElement;
-            document.title = [frame.contentWindow.innerWidth, root.scrollWidth, getComputedStyle(root.lastChild).fontSize];
-        }"""
-        for width in (1280, 400):
-            with self.subTest(width=width):
-                style = f"width: {width}px; height: 900px; border: 0"
-                frame = f'<iframe style="{style}" onload="measure(this)" srcdoc="{html.escape(inner)}"></iframe>'
-                (self.folder / "measured.html").write_text(f"<script>{script}</script>{frame}")
-                said = self.browse(self.folder / "measured.html", 1400, "--dump-dom")
-                found = re.search(r"<title>(\d+),(\d+),(\d+)px</title>", said.stdout)
-                self.assertIsNotNone(found, said.stdout[-300:])
-                shown, needed, size = map(int, found.groups() if found else ())
-                self.assertEqual(shown, width)
-                self.assertLessEqual(needed, shown)
-                self.assertGreaterEqual(size, 15)
-        self.assertEqual(*self.colours("--blink-settings=preferredColorScheme=1"))
-        self.assertNotEqual(*self.colours("--blink-settings=preferredColorScheme=0"))
-        self.browse(self.folder / "report.html", 1280, f"--print-to-pdf={self.folder / 'printed.pdf'}")
-        self.assertEqual((self.folder / "printed.pdf").read_bytes()[:5], b"%PDF-")
-
-    def colours(self, scheme: str) -> tuple[str, str]:
-        """The colour of the page in a scheme, and white."""
-        script = "<script>document.title = getComputedStyle(document.body).backgroundColor</script>"
-        text = re.sub(r"<meta http-equiv=.*>\n", "", (self.folder / "report.html").read_text()) + script
-        (self.folder / "scheme.html").write_text(text)
-        found = re.search(
-            r"<title>(rgb.*)</title>", self.browse(self.folder / "scheme.html", 1280, "--dump-dom", scheme).stdout
-        )
-        return found[1] if found else "none", "rgb(255, 255, 255)"
-
-    def browse(self, file: Path, width: int, *more: str) -> subprocess.CompletedProcess[str]:
-        words = (
-            f"--headless=new --disable-gpu --disable-dev-shm-usage --hide-scrollbars --window-size={width},900".split()
-        )
-        words += ["--no-sandbox"] * (os.geteuid() == 0) + [
-            "--enable-logging=stderr",
-            f"--user-data-dir={self.folder / 'user'}",
-        ]
-        kept = {**os.environ, "HOME": str(self.folder)}
-        return subprocess.run(
-            [str(BROWSER), *words, *more, file.as_uri()],
-            capture_output=True,
-            text=True,
-            check=True,
-            timeout=LONG,
-            env=kept,
-        )
 
 
 if __name__ == "__main__":
