@@ -93,6 +93,7 @@ class Recommended(unittest.TestCase):
             "<b>70.0 %</b>of the cost before: 9,000, then 2,700",
             "<b>5.0 MB</b>of 2,048.0 MB",
             "<h3>1. t(b)</h3>",
+            "costs 9,000 by our model, with it 1,800, both with all others, those not recommended too.",
         ):
             self.assertIn(part, made)
         # What isn't recommended has the last numbers, wherever it stands in the document.
@@ -102,6 +103,17 @@ class Recommended(unittest.TestCase):
         self.assertEqual(others.count("he server saves 3.3 %"), 1)
         with_all = "costs 1,800 by our model and 1,000 by the server's planner, and the indexes take 0.2 MB"
         self.assertIn(with_all, others)
+
+    def test_a_pick_that_costs_by_the_server_is_told_to(self) -> None:
+        from cophy_pg.page import page_text
+
+        given = document("/advice")
+        lost = "By the server's planner some statements lose more by it than others gain."
+        for server, count in ((88.9, 0), (0.0, 0), (-0.04, 0), (-0.2, 1)):
+            given["picks"][0]["saves"]["server"] = server
+            text = page_text(given, plans(), None)
+            self.assertEqual(text.count(lost), count)
+            self.assertNotIn("not recommended too", text)
 
 
 @unittest.skipIf(MISSING or NO_SERVER, MISSING or NO_SERVER)
