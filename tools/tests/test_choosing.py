@@ -90,7 +90,7 @@ class Choosing(OverSql):
         self.assertTrue(why and all(re.match(told, it) for it in why), why)
 
     def test_what_saves_less_than_planning_takes_longer_is_left_out(self) -> None:
-        found = self.advise("--planning", "1000000")
+        found = self.advise("--planning", "1000000", status=3)
         # A statement that names customer can't be explained, so what an index on it saves isn't known.
         self.assertEqual([it["table"] for it in found["picks"]], ["customer"])
         self.assertEqual(found["options"]["planning"], 1e6)

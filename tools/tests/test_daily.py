@@ -7,11 +7,12 @@ import shlex
 import tomllib
 from pathlib import Path
 from typing import Any
-from unittest import skipIf
+from unittest import TestCase, skipIf
 
 from fixtures import ADVISOR, NO_HYPOPG, ROOT, STAND_IN, InFolder, called, shop
 from private_server import PrivateServer
 from schema_check import faults
+from test_page import MISSING, document
 
 SCHEMA = json.loads((ROOT / "tools" / "pg" / "cophy_pg" / "changes.schema.json").read_text())
 MADE = """CREATE EXTENSION pg_stat_statements;
@@ -20,6 +21,40 @@ CREATE TABLE u AS SELECT i AS a FROM generate_series(1, 500) i;
 ANALYZE;
 """
 WORDS = ("--budget", "20MB", "--table", "t")
+
+
+@skipIf(MISSING, MISSING)
+class Recommended(TestCase):
+    def test_what_isnt_recommended_isnt_advised(self) -> None:
+        from cophy_pg.changes import Found, compared, lines_of
+        from cophy_pg.schema import Schema
+
+        plain = document("/a")["picks"][0]
+        doubtful = plain | {"caveat": "it saves 0.4 %"}
+        rows: list[tuple[list[Any], list[Any], dict[str, list[str]]]] = [
+            ([], [doubtful], {}),
+            ([doubtful], [doubtful], {}),
+            ([doubtful], [plain], {"new": ["t(b) clustered"]}),
+            ([plain], [doubtful], {"gone": ["t(b) clustered"]}),
+            ([plain], [plain], {"kept": ["t(b) clustered"]}),
+        ]
+        for old, new, wanted in rows:
+            with self.subTest(wanted=wanted, old=len(old)):
+                sides = []
+                for picks in (old, new):
+                    count = sum(not it.get("caveat") for it in picks)
+                    found = {"picks": count, "stored_pages": 20, "cost": 9000000, "server_cost": 8000.0}
+                    sides.append(Found(document("/a") | {"picks": picks, "recommended": found}, Schema([])))
+                told = compared(*sides)
+                self.assertEqual([*faults(told, SCHEMA, SCHEMA)], [])
+                kinds = {kind: [it["index"] for it in listed] for kind, listed in told["indexes"].items() if listed}
+                self.assertEqual(kinds, wanted)
+                self.assertEqual((told["to"]["cost"]["after"], told["to"]["server_cost"]["after"]), (9000000, 8000.0))
+                text = "\n".join(lines_of(told))
+                self.assertIn(
+                    "9,000 without new indexes, 9,000 with them; by the server's planner 9,000 and 8,000", text
+                )
+                self.assertEqual("; not recommended: it saves 0.4 %" in text, "gone" in wanted)
 
 
 @skipIf(NO_HYPOPG, NO_HYPOPG)
@@ -103,6 +138,19 @@ class Daily(InFolder):
         self.call("daily", str(self.home), *WORDS, status=3)
         found = self.daily(status=3)
         self.assertEqual([it["index"] for it in found["indexes"]["gone"]], ["t(b)"])
+
+    def test_a_day_on_which_nothing_is_recommended(self) -> None:
+        sql = self.folder / "queries.sql"
+        sql.write_text("SELECT a FROM t WHERE b = 5;\n-- weight 9000\nSELECT count(*) FROM t;\n")
+        words = ("--sql", str(sql), "--planning", "0", *WORDS)
+        found = self.folder / "found"
+        text = self.call("advise", "--folder", str(found), *words, status=3)
+        self.assertTrue(text.startswith("No index is plainly worth making for 'days'"), text)
+        self.assertEqual([it["name"] for it in json.loads((found / "advice.json").read_text())["picks"]], ["t_b_idx"])
+        self.call("daily", str(self.home), *words)
+        sql.write_text(sql.read_text().replace("b = 5", "c = 5"))
+        changes = self.daily(*words[:4])
+        self.assertEqual([*changes["indexes"].values()], [[]] * 4)
 
     def test_what_is_no_folder_of_advise_is_refused(self) -> None:
         for text in ("", "[]", '{"version": 2}'):

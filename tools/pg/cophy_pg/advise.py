@@ -16,7 +16,7 @@ from cophy_pg import export, folder, inputs, unlimited
 from cophy_pg.advise_words import parser_of
 from cophy_pg.catalogue import read_schema
 from cophy_pg.choice import Choice
-from cophy_pg.closing import ending, rows_of
+from cophy_pg.closing import ending, made_of
 from cophy_pg.clustering import permit
 from cophy_pg.commands import commands_text, unless_broken_off
 from cophy_pg.curve import as_json as as_json_of_point
@@ -58,7 +58,7 @@ from cophy_pg.writes import Indexed, indexes_of
 
 UNPROVED = "the program is unproved: no proof says that its costs and bounds are those of the model"
 NOTHING = 3
-"""The status where no index is worth making."""
+"""The status where no index is plainly worth making."""
 
 
 def add_advise(commands: argparse._SubParsersAction[argparse.ArgumentParser]) -> None:
@@ -88,7 +88,7 @@ def advise(words: argparse.Namespace) -> int:
         say(str(fault))
     if not words.is_silent:
         print(json.dumps(document, indent=2) if words.json else text, end="\n" if words.json else "")
-    return 0 if rows_of(document) else NOTHING
+    return 0 if made_of(document) else NOTHING
 
 
 class Run:

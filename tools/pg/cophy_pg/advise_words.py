@@ -21,7 +21,7 @@ def parser_of(commands: argparse._SubParsersAction[argparse.ArgumentParser]) -> 
         description="Exports a database and its statements, advises on them with a certificate, checks that, asks the "
         "server's planner about the picks, searches again without what no plan takes, and prints which indexes to make and "
         "what each saves. All files are kept in a folder. Nothing is made on the server.",
-        epilog="The status is 0 where there are indexes to make, 3 where there are none; 1 says that it couldn't be done, "
+        epilog="The status is 0 where there are indexes to make, 3 where none is recommended; 1 says that it couldn't be done, "
         "2 that the words are faulty.",
     )
     add_words(parser)

@@ -11,7 +11,7 @@ from cophy_text.files import shown
 from cophy_text.shown import grouped, percent, short, space
 from cophy_pg import folder
 from cophy_pg.catalogue import read_schema
-from cophy_pg.closing import is_hint, rows_of
+from cophy_pg.closing import is_hint, made_of, recommended_of
 from cophy_pg.ddl import NoIndex, names_of, taken_names
 from cophy_pg.folder import Folder
 from cophy_pg.inputs import NoInput
@@ -81,19 +81,16 @@ def changes(words: argparse.Namespace) -> int:
 
 def compared(old: Found, new: Found) -> dict[str, Any]:
     """What became different, as one document of JSON, whose form is `changes.schema.json`."""
-    sides = [
-        {it: side.document[it] for it in ("made", "folder", "asked_pages", "cost", "server_cost")}
-        for side in (old, new)
-    ]
-    before, after = ({named(it): it for _, it in rows_of(side.document)} for side in (old, new))
+    before, after = ({named(it): it for it in made_of(side.document)} for side in (old, new))
     why = {named(it): it["why"] for it in new.document["left_out"]}
+    why |= {named(it): f"not recommended: {it['caveat']}" for it in new.document["picks"] if it.get("caveat")}
     made = [name for name, it in before.items() if name not in after and new.has(it)]
     gone = [name for name in before if name not in after and name not in made]
     return {
         "version": 1,
         "database": new.document["database"],
-        "from": sides[0],
-        "to": sides[1],
+        "from": _side(old.document),
+        "to": _side(new.document),
         "indexes": {
             "new": [_pick(name, it) for name, it in after.items() if name not in before],
             "made": [_pick(name, before[name]) for name in made],
@@ -103,6 +100,16 @@ def compared(old: Found, new: Found) -> dict[str, Any]:
         "statements": _statements(old.document, new.document),
         "tables": _tables(old.schema, new.schema),
         "warnings": [it for it in new.document["warnings"] if it not in old.document["warnings"]],
+    }
+
+
+def _side(document: dict[str, Any]) -> dict[str, Any]:
+    """What a folder was asked for, and what the workload costs without and with what is recommended."""
+    found = {it: document[it] for it in ("made", "folder", "asked_pages")}
+    after = recommended_of(document)
+    return found | {
+        "cost": document["cost"] | {"after": after["cost"]},
+        "server_cost": document["server_cost"] | {"after": after["server_cost"]},
     }
 
 

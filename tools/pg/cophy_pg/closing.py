@@ -52,11 +52,16 @@ def made_hints(document: dict[str, Any]) -> list[dict[str, Any]]:
     return [it for it in document.get("hints", []) if not it["why_not"]]
 
 
+def made_of(document: dict[str, Any]) -> list[dict[str, Any]]:
+    """What the script makes unless it is told otherwise: the picks that are recommended, and the hints that it makes."""
+    return [*advised_of(document), *made_hints(document)]
+
+
 def rows_of(document: dict[str, Any]) -> list[tuple[int, dict[str, Any]]]:
-    """All that the script makes with its numbers, which are the same wherever they stand: the picks that are
-    recommended, the hints that it makes, and the other picks."""
+    """All that the script can make with its numbers, which are the same wherever they stand: what it makes unless it
+    is told otherwise, and the other picks."""
     others = [it for it in document["picks"] if it.get("caveat")]
-    return [*enumerate([*advised_of(document), *made_hints(document), *others], 1)]
+    return [*enumerate([*made_of(document), *others], 1)]
 
 
 def pages_of(document: dict[str, Any]) -> int:
