@@ -114,7 +114,9 @@ class Advise(OverSql):
         )
         lines = (self.kept / "commands.txt").read_text().splitlines()
         kept = (self.kept / "kept.txt").read_text()
-        for step in (shlex.split(it) for it in lines if it.startswith("cophy-pg") and " curve " not in it):
+        steps = [shlex.split(it) for it in lines if it.startswith("cophy-pg") and " curve " not in it]
+        # Once the catalogue is exported anew, the script says that it is newer than the advice.
+        for step in sorted(steps, key=lambda it: it[1] != "ddl"):
             if step[1] == "report" and not HAS_JINJA:
                 continue
             ran = self.call(*step[1:])
@@ -328,7 +330,7 @@ class Advise(OverSql):
                 said.setdefault(more[0], []).append(subprocess.run(words, capture_output=True, check=True).stdout)
         for name, (few, every) in said.items():
             self.assertEqual(few, every, name)
-        step = (self.found / "commands.txt").read_text().splitlines()[5]
+        step = (self.found / "commands.txt").read_text().splitlines()[6]
         self.assertEqual(
             subprocess.run(shlex.split(step), capture_output=True, check=True).stdout,
             (self.found / "check.txt").read_bytes(),

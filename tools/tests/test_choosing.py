@@ -9,6 +9,7 @@ import unittest
 
 from advised import HAS_JINJA, QUERIES, OverSql
 from fixtures import NO_HYPOPG
+from test_advise import without_gains
 
 
 @unittest.skipIf(NO_HYPOPG, NO_HYPOPG)
@@ -36,7 +37,7 @@ class Choosing(OverSql):
         self.assertIn("customer(name)", (self.found / "advice.txt").read_text())
         self.assertNotIn("customer(name)", (self.found / "ruled.txt").read_text())
         self.assertIn(f"budget {found['budget_pages']}", found["proved"])
-        steps = [shlex.split(it) for it in (self.found / "commands.txt").read_text().splitlines()[2:]]
+        steps = [shlex.split(it) for it in (self.found / "commands.txt").read_text().splitlines()[3:]]
         (ruled,) = [it for it in steps if it[1] == "ruled"]
         few = {**os.environ, "STAND_IN_MOST": "1"}
         said = subprocess.run(ruled, capture_output=True, check=True, env=few).stdout
@@ -88,6 +89,15 @@ class Choosing(OverSql):
         why = {it["why"] for it in found["left_out"] if it["table"] == "customer"}
         told = r"it saves [\d.]+ % by our model, [\d.]+ % by the server's planner; 30 % are asked for\Z"
         self.assertTrue(why and all(re.match(told, it) for it in why), why)
+        # Each step alone leaves what was chosen as it is, and asks the program of the call.
+        kept, script = ((self.found / it).read_text() for it in ("kept.txt", "indexes.sql"))
+        lines = (self.found / "commands.txt").read_text().splitlines()
+        steps = {it[1]: it[2:] for it in map(shlex.split, lines) if it[0] == "cophy-pg"}
+        self.assertEqual(self.call("ddl", *steps["ddl"]).stdout, without_gains(script))
+        for name in ("export", "verify", "why", "curve"):
+            ran = self.call(name, *steps[name], COPHY_PROGRAM="/nowhere")
+            self.assertEqual((self.found / "kept.txt").read_text(), kept, name)
+            self.assertNotIn("estimates are left out", ran.stderr)
 
     def test_what_saves_less_than_planning_takes_longer_is_left_out(self) -> None:
         found = self.advise("--planning", "1000000", status=3)

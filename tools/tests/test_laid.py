@@ -320,7 +320,8 @@ class Judged(OverTables):
         )
         self.assertIn("mixed(c) clustered", json.loads((old / "curve.json").read_text())[-1]["picks"])
         steps = [shlex.split(it) for it in (old / "commands.txt").read_text().splitlines() if it.startswith("cophy-pg")]
-        self.assertEqual(steps[0][-2:], ["--may-cluster", "public.mixed"])
+        at = steps[0].index("--may-cluster")
+        self.assertEqual(steps[0][at : at + 2], ["--may-cluster", "public.mixed"])
         self.call(*steps[0][1:])
         self.assertIn("may_cluster = true", (old / "catalogue.toml").read_text())
         text = (old / "indexes.sql").read_text()

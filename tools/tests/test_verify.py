@@ -134,6 +134,12 @@ class Verify(OverShop):
         found = self.outcomes(["customer(born)"])[""]
         self.assertEqual({it["fault"] for it in found["statements"]}, {None}, found["statements"])  # type: ignore[attr-defined]
 
+    def test_what_is_only_read_is_asked_about_behind_include(self) -> None:
+        self.export("SELECT max(name) FROM customer WHERE city = 'City 3'")
+        # Of a key PostgreSQL looks the last value up; of what is included it reads all.
+        key, included = (self.outcomes(["customer(city, name)"], *it)[""]["after"] for it in ((), ("--include",)))
+        self.assertLess(float(str(key)), float(str(included)))
+
     def test_a_parameter_has_the_type_of_the_column_that_it_is_compared_with(self) -> None:
         """One name stands for two tables, whose columns of one name have two types."""
         self.server.psql("CREATE TABLE one (v int, w text); CREATE TABLE two (v text, w int)", "shop")

@@ -29,32 +29,38 @@ def commands_text(
     both = [kept.path(folder.CATALOGUE), kept.path(folder.WORKLOAD)]
     chosen, written = _chosen(words), [*words_of(words), *clustering.words_of(words)]
     nodes = ["--nodes", str(words.nodes)] if words.nodes else []
+    ours = ["--program", words.program]
     trusted = ["--i-trust-the-statements"] if words.is_trusted else []
     advice, certificate, curve = kept.path(folder.ADVICE), kept.path(folder.CERTIFICATE), kept.path(folder.CURVE)
-    ordered = ["--order", ",".join(map(str, order))] if len(order) > 1 else []
-    ordered += ["--unadvised", ",".join(map(str, unadvised))] if unadvised else []
-    ordered += [word for it in also for word in ("--also", it.shown())]
     ruled: list[list[str]] = []
     if has_rules:
         ruled = [[words.program, "ruled", *both, str(budget), kept.path(folder.RULES), *nodes]]
         advice = kept.path(folder.RULED)
     steps = [
-        ["cophy-pg", "export", *both, "--report", kept.path(folder.EXPORT), *chosen, *written],
+        ["cophy-pg", "export", *both, "--report", kept.path(folder.EXPORT), *chosen, *written, *ours],
         ["cophy-lint", *both],
         [words.program, "advise", *both, str(budget), *nodes, "--cert", certificate],
         [words.program, "check", *both, certificate],
         *ruled,
-        ["cophy-pg", "verify", *both, advice, *chosen, *trusted, "--advice", kept.path(folder.KEPT)],
-        ["cophy-pg", "why", *both, kept.path(folder.KEPT)],
-        [*_script_of(words, kept, folder.KEPT), *ordered],
-        ["cophy-pg", "curve", *both, "--json"],
+        ["cophy-pg", "verify", *both, advice, *chosen, *trusted, *["--include"] * words.include, *ours],
+        ["cophy-pg", "why", *both, kept.path(folder.KEPT), *ours],
+        [*_script_of(words, kept, folder.KEPT), *_ordered(order, unadvised, also)],
+        ["cophy-pg", "curve", *both, "--json", *nodes, *ours],
         ["cophy-pg", "report", kept.name],
     ]
     head = [
         "# Each step of cophy-pg advise alone. The connection is that of PGHOST, PGDATABASE and their like, or of --dsn.",
         f"# What cophy {'ruled' if ruled else 'advise'} prints goes to {shown(advice)}, what curve prints to {shown(curve)}.",
+        f"# No step writes {shown(kept.path(folder.KEPT))}: it has what cophy-pg advise chose of them all.",
     ]
     return "\n".join([*head, *map(shlex.join, steps)]) + "\n"
+
+
+def _ordered(order: Sequence[int], unadvised: Sequence[int], also: Sequence[Applied]) -> list[str]:
+    """The words that say in which order what is made, and what else."""
+    ordered = ["--order", ",".join(map(str, order))] if len(order) > 1 else []
+    ordered += ["--unadvised", ",".join(map(str, unadvised))] if unadvised else []
+    return ordered + [word for it in also for word in ("--also", it.shown())]
 
 
 @contextmanager

@@ -13,6 +13,7 @@ from cophy_pg import inputs
 from cophy_pg.catalogue import read_schema
 from cophy_pg.ddl import advice_of
 from cophy_pg.explain import Explainer, NoStatement, add_names, statement_of
+from cophy_pg.included import searched_columns
 from cophy_pg.outcomes import ORDINARY, Outcome, Verdict, outcomes, texts_in, unmatched
 from cophy_pg.parameters import Columns
 from cophy_pg.picks import home_of, index_names, make, replaceable
@@ -63,6 +64,11 @@ def add_verify(commands: argparse._SubParsersAction[argparse.ArgumentParser]) ->
     source.add_argument("--log", metavar="FILE", help="the statements as export took them from a log")
     add_selection(parser)
     add_trust(parser)
+    parser.add_argument(
+        "--include",
+        action="store_true",
+        help="ask about indexes that have columns behind INCLUDE which no statement compares, joins, groups or orders by",
+    )
     parser.add_argument(
         "--advice",
         metavar="FILE",
@@ -182,7 +188,10 @@ def verify(words: argparse.Namespace) -> int:
     """Prints what the planner says."""
     files.check([words.rules, words.advice_file], [words.catalogue, words.workload, words.advice, words.sql, words.log])
     schema, advice, progress = read_schema(files.read(words.catalogue)), advice_of(words.advice), Progress()
-    workload = files.read(words.workload).decode(errors="replace")
+    content = files.read(words.workload)
+    if words.include:
+        schema.searched = searched_columns(content)
+    workload = content.decode(errors="replace")
     with connected(words.dsn, words.timeout) as server:
         if not words.is_trusted:
             with reading(server):
