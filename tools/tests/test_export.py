@@ -345,7 +345,7 @@ ANALYZE"""
         self.assertIn("calls were divided by 2.0", report)
         why = "beyond 1000 statements or 2000 sources: others cost more"
         shown = r"SELECT a FROM t1 WHERE b = \?"
-        beyond = re.findall(rf"^  skipped \(line \d+, calls \d+\): {why}; {shown}$", report, re.MULTILINE)
+        beyond = re.findall(rf"^  skipped \(line \d+, calls [\d,]+\): {why}; {shown}$", report, re.MULTILINE)
         self.assertEqual(len(beyond), 101)
         self.assertIn(f"  skipped (line 2, calls 1): {why}", report)
 

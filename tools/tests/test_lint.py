@@ -73,7 +73,7 @@ class Lint(unittest.TestCase):
         table = [
             (
                 "SELECT c FROM t;\n\nSELECT c FROM t WHERE c BETWEEN ? AND ?",
-                "a range of parameters is taken to keep a quarter of the rows: statement 2, line 3 ('c')",
+                "a range of parameters is taken to keep a quarter of the rows: statement 2, line 3 ('c'): SELECT c FROM t WHERE c",
             ),
             (
                 "SELECT c FROM t WHERE c >= $1",
@@ -83,7 +83,7 @@ class Lint(unittest.TestCase):
             ("SELECT c FROM t WHERE x LIKE 'q%'", "LIKE with a prefix"),
             (
                 "SELECT c FROM t LIMIT 5",
-                "LIMIT costs and saves nothing, the whole statement is priced: statement 1, line 1",
+                "LIMIT costs and saves nothing, the whole statement is priced: statement 1, line 1: SELECT c FROM t LIMIT 5\n",
             ),
         ]
         for workload, note in table:
@@ -111,8 +111,9 @@ class Lint(unittest.TestCase):
         status, text = self.linted(HEAD + COLUMN + TEXT, "\n".join(statements))
         self.assertEqual((status, text.count("\n")), (0, 2))
         bounds, limits = text.splitlines()
-        self.assertIn("statement 1, line 1 ('c' and 'x'); statement 2, line 2 ('c'); statement 3, line 4 ('c'", bounds)
-        self.assertTrue(limits.endswith("statement 30, line 44"), limits)
+        first, second = (it.rstrip(";\n") for it in statements[:2])
+        self.assertIn(f"statement 1, line 1 ('c' and 'x'): {first}; statement 2, line 2 ('c'): {second}; s", bounds)
+        self.assertTrue(limits.endswith(f"statement 30, line 44: {second}"), limits)
         self.assertEqual(limits.count("statement "), 31)
 
     def test_what_no_statement_names_counts_for_nothing(self) -> None:
@@ -252,7 +253,8 @@ class Edits(unittest.TestCase):
             "add 1 SELECT c FROM t WHERE c > ?\nadvise\nadd 1 SELECT c FROM t WHERE c < $1 LIMIT 5\nadvise\n"
         )
         self.assertEqual(status, 0)
-        self.assertEqual(lines[0].rsplit(": ", 1)[1], "line 1 ('c'); line 3 ('c')")
+        first, second = "SELECT c FROM t WHERE c > ?", "SELECT c FROM t WHERE c < $1 LIMIT 5"
+        self.assertTrue(lines[0].endswith(f": line 1 ('c'): {first}; line 3 ('c'): {second}"), lines[0])
         self.assertIn("LIMIT costs and saves nothing, the whole statement is priced: line 3", lines[1])
 
 

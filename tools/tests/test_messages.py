@@ -33,12 +33,13 @@ class Messages(InFolder):
         return ran
 
     def test_a_bad_statement_is_counted_with_its_line(self) -> None:
+        (self.folder / "q.sql").write_text("SELEC 1;\n-- weight 12345\nSELECT a FROM t;\n")
         ran = self.call("rewrite", "c.toml", "q.sql", "w.sql", "--report", "r.txt")
         self.assertIn("2 statements, written as 1", ran.stderr)
-        self.assertRegex(ran.stderr, r"1   50\.0 % .*PostgreSQL's parser doesn't take it \(line 2\)")
+        self.assertRegex(ran.stderr, r"1   50\.0 % .*PostgreSQL's parser doesn't take it \(line 1\)")
         report = (self.folder / "r.txt").read_text()
-        self.assertIn("\n  statement 1 kept (line 1, calls 1): SELECT a FROM t\n", report)
-        self.assertIn("\n  skipped (line 2, calls 1): PostgreSQL's parser doesn't take it; SELEC ?\n", report)
+        self.assertIn("\n  statement 1 kept (line 3, calls 12,345): SELECT a FROM t\n", report)
+        self.assertIn("\n  skipped (line 1, calls 1): PostgreSQL's parser doesn't take it; SELEC ?\n", report)
 
     def test_words_that_mean_nothing_are_told(self) -> None:
         for words in (

@@ -7,6 +7,7 @@ from dataclasses import dataclass
 from typing import Any
 
 from cophy_text import keys
+from cophy_text.shown import short
 from cophy_text.tokens import Token, names_in, tokens
 
 _RANGES = (b"<", b"<=", b">", b">=")
@@ -136,7 +137,8 @@ def workload_remarks(content: bytes, document: dict[str, Any]) -> list[Remark]:
             statement.append(token)
         elif statement:
             number += 1
-            found += statement_remarks(statement, kinds, f"statement {number}, line {line}")
+            sql = content[at - 1 : token.place - 1].decode(errors="replace")
+            found += statement_remarks(statement, kinds, f"statement {number}, line {line}", sql)
             statement = []
     return found if number else [Warning("workload", "it holds no statement: every total is 0")]
 
@@ -150,8 +152,8 @@ def kinds_of(document: dict[str, Any]) -> dict[str, set[str]]:
     return found
 
 
-def statement_remarks(listed: list[Token], kinds: dict[str, set[str]], place: str) -> Iterator[Remark]:
-    """What is said of a statement: of each kind of note once, with the columns that it is of."""
+def statement_remarks(listed: list[Token], kinds: dict[str, set[str]], place: str, sql: str) -> Iterator[Remark]:
+    """What is said of a statement: of each kind of note once, with the columns that it is of and the begin of its SQL."""
     columns: dict[str, list[str]] = {}
     for at, token in enumerate(listed):
         before, after = listed[at - 1] if at else None, listed[at + 1] if at + 1 < len(listed) else None
@@ -165,7 +167,7 @@ def statement_remarks(listed: list[Token], kinds: dict[str, set[str]], place: st
             columns.setdefault(kind, []).append(f"{column!a}" if token.word != "LIMIT" else "")
     for kind, named in columns.items():
         names = " and ".join(dict.fromkeys(it for it in named if it))
-        yield Note(kind, place + (f" ({names})" if names else ""))
+        yield Note(kind, place + (f" ({names})" if names else "") + f": {short(sql)}")
 
 
 def _guess(token: Token, after: Token, kinds: set[str]) -> str | None:

@@ -22,7 +22,8 @@ def edits_remarks(content: bytes, document: dict[str, Any], workload: bytes | No
             found.append(Warning(place, f"is no edit: {edit}"))
             continue
         if edit.verb == "add":
-            found += statement_remarks([it for it in tokens(edit.sql) if it.kind != "weight"], kinds, place)
+            added = [it for it in tokens(edit.sql) if it.kind != "weight"]
+            found += statement_remarks(added, kinds, place, edit.sql.decode(errors="replace"))
         if weights is not None:
             found += (Warning(place, it) for it in _step(weights, edit))
     last = max((number for number, _, it in listed if it == ADVISE), default=0)

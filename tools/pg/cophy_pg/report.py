@@ -4,7 +4,7 @@ from __future__ import annotations
 from collections.abc import Iterable
 
 from cophy_text.answers import counted
-from cophy_text.shown import short
+from cophy_text.shown import grouped, short
 from cophy_pg.outcomes import numbered
 from cophy_pg.rewrite import CHANGES
 from cophy_pg.rewrite.parse import without_literals
@@ -78,8 +78,8 @@ def each(workload: Workload) -> list[str]:
 def _line(record: Record) -> str:
     given, found = record.input, record.found
     line = f"line {given.line}, " if given.line else ""
-    seconds = f", {given.seconds:.3f} s" if given.seconds is not None else ""
+    seconds = f", {given.seconds:,.3f} s" if given.seconds is not None else ""
     name = numbered("statement", record.numbers) + " " if record.numbers else ""
     why = found.skipped or ", ".join(found.changes)
     what = "; ".join(it for it in (why, short(without_literals(given.text))) if it)
-    return f"  {name}{found.outcome} ({line}calls {given.calls}{seconds}): {what}"
+    return f"  {name}{found.outcome} ({line}calls {grouped(given.calls)}{seconds}): {what}"
