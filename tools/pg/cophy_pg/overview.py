@@ -22,8 +22,8 @@ MUCH = 20
 """A skipped statement is named that has this part of the whole."""
 UNHELPED, SEEN, SLOW = 10, 1000, 0.005
 """Statements that no index helps are told that have this part of the time together, each this one and so many seconds a call."""
-MOST_NUMBERS, SQL = 5, 45
-"""So many numbers of statements, and so many characters of one, are shown."""
+MOST_NUMBERS = 5
+"""So many numbers of statements are shown."""
 WIDE = 5
 """Of so many columns some are mostly only read."""
 
@@ -238,7 +238,7 @@ def _for(pick: dict[str, Any], document: dict[str, Any]) -> str:
         return "less than 0.1 % of the cost in each statement"
     first, *others = found
     losing = [it for it in pick["changes"] if is_seen(it) and it not in found]
-    text = f"{name_of(first)}, {_measured_time([first])}: {purpose(pick, first, document, SQL)}"
+    text = f"{name_of(first)}, {_measured_time([first])}: {purpose(pick, first, document, SHORT)}"
     text += f"; also {_all_of(others)}" if others else ""
     return text + (f"; {_all_of(losing)} lose{'s' * (len(losing) == 1)}" if losing else "")
 
