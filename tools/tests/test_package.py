@@ -54,9 +54,10 @@ class OverPackages(OverCopy):
 
     def dpkg(self, there: Path, *words: str) -> str:
         """A call of dpkg that knows of nothing but what is under that root."""
-        how = ("--force-not-root", "--force-depends", "--path-include=/*", f"--log={self.copy.folder / 'log'}")
+        how = ("--force-not-root", "--force-depends", "--force-script-chrootless", "--path-include=/*")
+        log = f"--log={self.copy.folder / 'log'}"
         ran = subprocess.run(
-            ["dpkg", f"--root={there}", *how, *words], capture_output=True, text=True, check=True, timeout=600
+            ["dpkg", f"--root={there}", *how, log, *words], capture_output=True, text=True, check=True, timeout=600
         )
         return ran.stdout
 
@@ -66,14 +67,15 @@ class OverPackages(OverCopy):
         there = self.copy.folder / "there"
         (there / "var/lib/dpkg").mkdir(parents=True)
         (there / "var/lib/dpkg/status").touch()
-        self.dpkg(there, "--install", *self.debs)
+        self.said = self.dpkg(there, "--install", *self.debs)
         for it in ("cophy", "cophy-pg"):
             self.assertIn("\nStatus: install ok installed\n", self.dpkg(there, "--status", it))
         return there
 
-    def about(self, deb: str, what: str) -> str:
+    def about(self, deb: str, what: str, *more: str) -> str:
         """What dpkg-deb says of a package."""
-        return subprocess.run(["dpkg-deb", what, deb], capture_output=True, text=True, check=True, timeout=600).stdout
+        how = ["dpkg-deb", what, deb, *more]
+        return subprocess.run(how, capture_output=True, text=True, check=True, timeout=600).stdout
 
     def run_there(
         self, there: Path, *words: str, command: str = "usr/bin/cophy", **more: str
@@ -206,6 +208,26 @@ class Tools(OverPackages):
         self.assertEqual((ran.returncode, ran.stdout), (0, f"cophy-lint {VERSION}\n"))
         self.dpkg(self.there, "--purge", "cophy-pg", "cophy")
         self.assertFalse((self.there / "usr").exists())
+
+    def test_the_installation_ends_with_where_to_begin(self) -> None:
+        told = "cophy-pg: to begin: cophy-pg setup DATABASE\n"
+        self.assertTrue(self.said.endswith(told), self.said)
+        self.copy.lay_script("postinst", self.about(self.debs[1], "--info", "postinst"))
+        for word, wanted in (("configure", told), ("abort-upgrade", "")):
+            ran = subprocess.run(
+                [str(self.copy.folder / "postinst"), word], capture_output=True, text=True, check=True, timeout=LONG
+            )
+            self.assertEqual((ran.stdout, ran.stderr), (wanted, ""))
+
+    @unittest.skipIf(LACKS, f"python3-{LACKS} isn't installed")
+    def test_without_a_command_it_says_where_to_begin(self) -> None:
+        ran = self.call()
+        self.assertEqual((ran.returncode, ran.stderr), (2, ""))
+        self.assertTrue(ran.stdout.startswith("cophy-pg setup DATABASE makes a role that only reads "), ran.stdout)
+        self.assertLessEqual(len(ran.stdout.split()), 45)
+        manual = ran.stdout.split()[-1]
+        self.assertTrue(manual.startswith("/usr/share/doc/"), manual)
+        self.assertTrue(Path(f"{self.there}{manual}").is_file())
 
     @unittest.skipIf(LACKS, f"python3-{LACKS} isn't installed")
     def test_it_runs_and_writes_nothing_beside_itself(self) -> None:

@@ -6,6 +6,7 @@ import io
 import os
 import signal
 import sys
+from pathlib import Path
 from typing import Any
 
 from cophy_pg.advise import add_advise
@@ -33,12 +34,19 @@ from cophy_pg.why import add_why
 from cophy_text import VERSION
 from cophy_text.answers import NoAnswer
 
+PAGE = Path(__file__).resolve().parents[3] / "docs" / "POSTGRES.md"
+PACKED = "/usr/share/doc/cophy-pg/POSTGRES.md.gz"
+BEGIN = """cophy-pg setup DATABASE makes a role that only reads and two extensions, then prints the two lines to type next.
+Nothing else changes on the server until you run the script that advise writes.
+All commands: cophy-pg --help; manual: {}"""
+
 
 def main() -> int:
     """Runs the command that the words name. Status 1 says that it couldn't do its work, 2 that the words are faulty."""
     parser = argparse.ArgumentParser(prog="cophy-pg", description=__import__("cophy_pg").__doc__)
     parser.add_argument("--version", action="version", version=f"cophy-pg {VERSION}")
-    commands = parser.add_subparsers(required=True, metavar="COMMAND")
+    parser.set_defaults(run=_begin)
+    commands = parser.add_subparsers(metavar="COMMAND")
     for add in (
         add_setup,
         add_advise,
@@ -78,6 +86,12 @@ def main() -> int:
         return 1
     except Ended as ended:
         return 128 + int(ended.args[0])
+
+
+def _begin(words: argparse.Namespace) -> int:
+    """Says where to begin, to whom names no command."""
+    print(BEGIN.format(PAGE if PAGE.is_file() else f"zless {PACKED}"))
+    return 2
 
 
 def _run(words: argparse.Namespace) -> int:
