@@ -193,6 +193,18 @@ class Tools(OverPackages):
         documents = {it.name for it in (self.there / "usr/share/doc/cophy-pg").iterdir()}
         self.assertEqual(documents, {"copyright", "changelog.gz", "POSTGRES.md.gz", "SECURITY.md.gz"})
 
+    def test_links_of_documents_lead_to_what_is_there(self) -> None:
+        links = set[str]()
+        for it in DOCUMENTS:
+            (packed,) = (self.there / "usr/share/doc").glob(f"*/{it}.md.gz")
+            text = gzip.decompress(packed.read_bytes()).decode()
+            links |= {*re.findall(r"\]\(([^)\s]*)\)", text)}
+        named = {it.partition("#")[0] for it in links if "://" not in it} - {""}
+        self.assertIn("/usr/share/cophy-pg/tools/pg/cophy_pg/effect.schema.json", named)
+        self.assertIn("/usr/share/doc/cophy/FORMATS.md.gz", named)
+        for it in named:
+            self.assertTrue(it.startswith("/usr/") and Path(f"{self.there}{it}").is_file(), it)
+
     def test_all_is_of_root_and_readable(self) -> None:
         kinds = {"drwxr-xr-x", "-rw-r--r--", "-rwxr-xr-x", "lrwxrwxrwx"}
         for deb in self.debs:
