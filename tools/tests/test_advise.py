@@ -169,14 +169,13 @@ class Advise(OverSql):
         self.assertRegex(text, end)
         place = f"-h {self.server.folder} -p 5432 -d shop -U cophy -f {self.found}/indexes.sql"
         command = f"let their owner run: psql -X {place}"
-        then = f"then, whether it helped: cophy-pg effect {self.found}"
+        then = f"whether it helped: cophy-pg effect {self.found}"
         self.assertEqual(text.splitlines()[-2:], [f"to make them in about 1 second, {command}", then])
         self.assertEqual(short.splitlines()[-1], then)
         self.assertEqual(short.splitlines()[-4], f"psql -X {place}")
         at = f"-h {self.server.folder} -p 5432"
-        member = (
-            rf"sudo -u postgres createuser {at} --role=cophy \w+ && env -u PGHOST -u PGUSER psql -X {at} -d shop -f"
-        )
+        made = r"""-c 'CREATE USER "(\w+)"' -c 'GRANT "cophy" TO "\1"'"""
+        member = rf"sudo -u postgres psql {at} {made} && PGUSER= psql -X {at} shop -f"
         self.assertRegex(short.splitlines()[-2], f"^{member} {self.found}/indexes.sql$")
         self._reads_alone()
 

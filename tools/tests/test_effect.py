@@ -299,7 +299,7 @@ class Effect(OverOwn):
 
     def test_from_the_advice_to_the_times(self) -> None:
         summary = self.advise()
-        then = f"then, whether it helped: cophy-pg effect '{self.found}'"
+        then = f"whether it helped: cophy-pg effect '{self.found}'"
         self.assertEqual(summary.splitlines()[-1], then)
         kept = self.folder / "advice of today" / "effect.json"
         text = self.call("effect", self.found, status=3).stdout

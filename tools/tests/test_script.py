@@ -114,7 +114,7 @@ class Script(OverOwn):
         self.addCleanup(self.server.psql, "ALTER TABLE parted_one OWNER TO cophy; DROP ROLE stranger", "making")
         said = self.run_script(text, status=3)
         self.assertIn("let their owner run the script, not a superuser", said)
-        todo = "To make these indexes run it as stranger (psql -X -U), or as a role that is a member of it (createuser --role)"
+        todo = "To make these indexes run it as stranger (psql -X -U), or as a role that is a member of it (GRANT)"
         self.assertIn(todo, said)
         self.assertEqual(self.names(), before)
 

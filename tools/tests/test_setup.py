@@ -93,6 +93,27 @@ class Setup(InFolder):
             other.value("SELECT pg_get_userbyid(relowner) FROM pg_class WHERE relname = 'made'", "odd"), "boss"
         )
 
+    def test_a_role_becomes_a_member_of_the_owner_as_often_as_it_is_asked(self) -> None:
+        from cophy_pg.closing import member_of
+
+        (self.folder / "sudo").write_text('#!/bin/sh\nshift 2\nPGUSER=cophy PGDATABASE=postgres exec "$@"\n')
+        (self.folder / "sudo").chmod(0o755)
+        (self.folder / "made.sql").write_text("SET ROLE boss; CREATE TABLE IF NOT EXISTS made_again ();")
+        self.server.psql("CREATE ROLE boss")
+        self.server.psql("GRANT ALL ON SCHEMA public TO boss", "odd")
+        document = {"owners": ["boss"], "host": str(self.server.folder), "database": "odd", "picks": []}
+        told, line = member_of(document, str(self.folder / "made.sql"))
+        path = f"{self.folder}:{Path(str(program('psql'))).parent}:/usr/bin:/bin"
+        for said in ("", "already exists"):
+            how = {"env": {"PATH": path, "PGUSER": "nobody"}, "capture_output": True, "text": True}
+            ran = subprocess.run(["sh", "-c", line], check=True, **how)  # type: ignore[call-overload]
+            self.assertIn(said, ran.stderr)
+        ours = told.split()[3]
+        self.assertEqual(self.server.value(f"SELECT pg_has_role('{ours}', 'boss', 'MEMBER')"), "t")
+        self.server.psql(told[told.index("REVOKE") : -1])
+        self.assertEqual(self.server.value(f"SELECT pg_has_role('{ours}', 'boss', 'MEMBER')"), "f")
+        self.server.psql(f'DROP OWNED BY boss; DROP ROLE boss, "{ours}"', "odd")
+
     def test_a_server_that_counts_nothing_is_told_with_the_lines_that_mend_it(self) -> None:
         other = PrivateServer(settings=("shared_preload_libraries=auto_explain",))
         self.addCleanup(other.stop)

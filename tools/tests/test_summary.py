@@ -103,7 +103,9 @@ class Summary(OverDocument):
         from cophy_pg.closing import command_of, member_of
 
         for owner, host in (("root", "localhost"), ("app", "db")):
-            self.assertIsNone(member_of(self.document | {"owners": [owner], "host": host, "port": 5432}, "/a"))
+            self.assertEqual(member_of(self.document | {"owners": [owner], "host": host, "port": 5432}, "/a"), [])
+        told = member_of(self.document | {"owners": ["app"], "host": "localhost", "port": 5432}, "/a")
+        self.assertIn(" && PGHOST= PGUSER= psql -X -p 5432 ", told[1])
         at = {"owners": ["root"], "host": "localhost", "port": 5432}
         self.assertEqual(
             command_of(self.document | at, "/a/b c", "root"), "sudo -u root psql -X -p 5432 -d 'shop & <b>' < '/a/b c'"

@@ -19,7 +19,7 @@ class Verdict(OverDocument):
         # Of 1.6 s a statement has 1.5, and costs 100 of 900; the other one costs what it did.
         first = [
             "Make these 5 indexes: 20.0 MB of the budget of 2,048.0 MB.",
-            "They save about 83 % of the 1.6 s measured for queries, if time falls as the planner's cost does.",
+            "They save about 83 % of the 1.6 s measured for queries, if time falls like the planner's cost.",
             "No indexes within the budget save more by our model (proved).",
         ]
         self.assertEqual(lines[: lines.index("")], first)
@@ -31,11 +31,11 @@ class Verdict(OverDocument):
             ["all else: /home/you/advice/details.txt", "make them (about 37 seconds, reads and writes go on):"],
         )
         self.assertTrue(lines[-4].endswith("-U app -f /home/you/advice/indexes.sql"))
-        self.assertEqual(lines[-3], "or without the password of app, as your own role:")
+        self.assertRegex(lines[-3], r'^or without password, (\w+) joins app until REVOKE "app" FROM "\1":$')
         where = "-h '/run/db server' -p 5433"
-        self.assertRegex(lines[-2], rf"^sudo -u postgres createuser {where} --role=app \w+ && env ")
-        self.assertRegex(lines[-2], rf" && env -u PGHOST -u PGUSER psql -X {where} -d .* -f /home/")
-        self.assertEqual(lines[-1], "then, whether it helped: cophy-pg effect /home/you/advice")
+        made = rf"""-c 'CREATE USER "(\w+)"' -c 'GRANT "app" TO "\1"'"""
+        self.assertRegex(lines[-2], rf"^sudo -u postgres psql {where} {made} && PGUSER= psql -X {where} .* -f /home/")
+        self.assertEqual(lines[-1], "whether it helped: cophy-pg effect /home/you/advice")
         self.assertEqual([it for it in lines if "MB" in it], [lines[0], lines[at - 1]])
         self.document["cost"]["bound"] = 1796000
         self.assertTrue(self.verdict()[2].startswith("Others within the budget save at most 0.1 % of the cost more by"))

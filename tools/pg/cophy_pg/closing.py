@@ -12,6 +12,7 @@ from cophy_text.shown import grouped, share, space
 from cophy_pg import folder
 from cophy_pg.folder import Folder
 from cophy_pg.guesses import seconds_of
+from cophy_pg.server import quoted_name
 from cophy_pg.speed import duration
 from cophy_pg.trust import DISTRUST, WHO
 
@@ -177,19 +178,24 @@ def command_of(document: dict[str, Any], script: str, owner: str, more: str = ""
     return f"{shlex.join(['psql', '-X', *at, '-U', who])}{more} -f {shlex.quote(script)}"
 
 
-def member_of(document: dict[str, Any], script: str) -> str | None:
-    """What who doesn't know the password of the one owner may run: a role of his own on this machine, that is a member of it,
-    makes them. Nothing where no password is asked for."""
+def member_of(document: dict[str, Any], script: str) -> list[str]:
+    """What who doesn't know the password of the one owner may run, as often as he likes: a role of his own on this machine,
+    which becomes a member of it, makes them. Nothing where no password is asked for."""
     owners, host = document["owners"], str(document.get("host") or "")
     if len(owners) != 1 or not _is_here(document) or _is_user(owner := _plain(owners[0])):
-        return None
+        return []
     ours, socket = pwd.getpwuid(os.geteuid()).pw_name, ["-h", host] * host.startswith("/")
-    at = [*socket, "-p", str(document.get("port") or 5432)]
-    made = ["sudo", "-u", "postgres", "createuser", *at, f"--role={owner}", ours]
+    at, role, member = [*socket, "-p", str(document.get("port") or 5432)], quoted_name(owner), quoted_name(ours)
+    # The second one alone says whether psql succeeds.
+    made = shlex.join(["-c", f"CREATE USER {member}", "-c", f"GRANT {role} TO {member}"])
     # What the shell was told for the advisor's role names another one.
-    words = ["env", "-u", "PGHOST", "-u", "PGUSER", "psql", "-X", *at, "-d", _plain(str(document["database"]))]
+    told = "PGUSER=" if socket else "PGHOST= PGUSER="
     more = " -v all=1" if all(it.get("caveat") for _, it in rows_of(document)) else ""
-    return f"{shlex.join(made)} && {shlex.join(words)}{more} -f {shlex.quote(script)}"
+    words = shlex.join(["psql", "-X", *at, _plain(str(document["database"]))])
+    return [
+        f"or without password, {ours} joins {owner} until REVOKE {role} FROM {member}:",
+        f"sudo -u postgres psql {shlex.join(at)} {made} && {told} {words}{more} -f {shlex.quote(script)}",
+    ]
 
 
 def _is_here(document: dict[str, Any]) -> bool:
@@ -214,7 +220,7 @@ def ending(document: dict[str, Any], kept: Folder) -> list[str]:
 
 def seen_by(kept: Folder) -> str:
     """What says whether the indexes helped, once they are made."""
-    return f"then, whether it helped: cophy-pg effect {shlex.quote(kept.name)}"
+    return f"whether it helped: cophy-pg effect {shlex.quote(kept.name)}"
 
 
 def _plain(name: str) -> str:

@@ -157,7 +157,7 @@ REFUSE = r"""WITH RECURSIVE touched AS (
         ON r.oid = o.oid
 )
 SELECT coalesce(owners, '') AS owners, coalesce(is_owner, true) AS is_owner, coalesce(
-    'run it as ' || others || ' (psql -X -U), or as a role that is a member of it (createuser --role)',
+    'run it as ' || others || ' (psql -X -U), or as a role that is a member of it (GRANT)',
     'disable the event trigger, or give its function to a superuser') AS todo,
     EXISTS (SELECT FROM pg_roles o WHERE NOT o.rolsuper AND o.rolname <> session_user AND (
     o.oid IN (SELECT oid FROM owners)

@@ -57,11 +57,9 @@ def verdict(document: dict[str, Any], kept: Folder) -> list[str]:
         known = [it["build_seconds"] for _, it in advised or picks if it.get("build_seconds") is not None]
         time = f" (about {duration(sum(known))}, reads and writes go on)" if known and not _locks(document) else ""
         script = kept.path(folder.DDL)
-        commands, member = commands_of(document, script), member_of(document, script)
+        commands = commands_of(document, script)
         lines += [f"make them{time}{', a line for each owner' * (len(commands) > 1)}:", *commands]
-        if member is not None:
-            lines += [f"or without the password of {document['owners'][0]}, as your own role:", member]
-        lines += [seen_by(kept)]
+        lines += [*member_of(document, script), seen_by(kept)]
     return lines
 
 
@@ -87,7 +85,7 @@ def _saved(document: dict[str, Any]) -> str:
     falls = _percent_saved(document)
     if time := time_of(document):
         about = f"{falls:.0f} %" if falls >= 1 else percent(falls)
-        return f"about {about} of {time}, if time falls as the planner's cost does"
+        return f"about {about} of {time}, if time falls like the planner's cost"
     return f"{percent(falls)} of the cost by the server's planner"
 
 
