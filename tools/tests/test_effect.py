@@ -198,7 +198,7 @@ class Text(unittest.TestCase):
             for at in range(1, statements + 1)
         ]
         counted = {"begin": "indexes", "calls": 9, "before": 3.14, "since": 0.4, "statements": listed}
-        cost = {"statements": 9, "of": 9, "before": 200.0, "now": 20.0, "advised": 9.0}
+        cost = {"statements": 9, "of": 9, "before": 200.0, "now": 20.0, "advised": 9.0, "time": None}
         document = {"version": 1, "database": "d", "made": "", "source": "pg_stat_statements", "indexes": indexes}
         document |= {"make": ["psql"] * (count >= 10), "server_cost": cost, "counted": counted} | more
         self.assertEqual([*faults(document, SCHEMA, SCHEMA)], [])
@@ -215,11 +215,14 @@ class Text(unittest.TestCase):
         self.assertEqual(lines[9], f"{'3,000.0':>10} {'40.0':>10} {'9':>11}  {'S' * 60}")
         for count, statements in ((21, 0), (10, 10), (3, 90), (90, 90)):
             lines = lines_of(self.found(count, statements))
-            self.assertLessEqual(len(lines), 21)
+            self.assertLessEqual(len(lines), 25 if count <= 12 else 21)
             self.assertLessEqual(max(map(len, lines)), 100)
             # Those that aren't there are told while there is room.
             self.assertEqual(sum("INVALID" in it for it in lines), min(3, count // 10))
-        self.assertIn("and 87 more, of which 81 are there", lines)
+        self.assertIn("and 87 more, of which 81 are there, 80 of them in use", lines)
+        # Of a dozen indexes each has its scans.
+        lines = lines_of(self.found(12, 90))
+        self.assertEqual([it.split()[0] for it in lines if it[2:3] == "."], [f"{at}." for at in range(1, 13)])
 
     def test_those_that_got_slower_are_the_last_of_ten(self) -> None:
         lines = lines_of(self.found(1, 90))
@@ -237,9 +240,21 @@ class Text(unittest.TestCase):
         self.assertEqual(
             lines_of(self.found(0, 0, counted=None, server_cost=None)), ["The folder has no index to make."]
         )
-        some = {"statements": 3, "of": 9, "before": 200.0, "now": 20.0, "advised": 9.0}
+        some = self.found(1, 0)["server_cost"] | {"statements": 3}
         told = "By the server's planner 3 of 9 statements cost 90.0 % less; the advice said 91.0 %."
         self.assertEqual(lines_of(self.found(1, 0, server_cost=some))[2], told)
+
+    def test_what_the_planner_says_is_named_as_the_summary_names_it(self) -> None:
+        begin, of_time = "By the server's planner the statements ", " of the time measured for queries; the advice said"
+        for more, told in (
+            ({"time": {"saved": 50.4, "advised": 51.2}}, f"would take 50 % less{of_time} 51 %."),
+            ({"time": {"saved": 0.43, "advised": 51.2}}, f"would take 0.4 % less{of_time} 51 %."),
+            ({"time": {"saved": -4.4, "advised": 51.2}}, f"would take 4 % more{of_time} 51 % less."),
+            ({"now": 208.8}, "cost 4.4 % more; the advice said 91.0 % less."),
+            ({"now": 200.01}, "cost 0.0 % less; the advice said 91.0 %."),
+        ):
+            cost = self.found(1, 0)["server_cost"] | more
+            self.assertEqual(lines_of(self.found(1, 0, server_cost=cost))[2], begin + told)
 
     def test_statements_that_became_slower_are_told(self) -> None:
         found = self.found(2, 2)
@@ -257,10 +272,10 @@ class Text(unittest.TestCase):
         counted = self.found(2, 1)["counted"] | {"begin": "advice"}
         lines = lines_of(self.found(2, 1, counted=counted))
         self.assertTrue(lines[1].startswith("Since the advice this statement took "))
-        later = "Calls before the indexes stood count too; called again later, this counts from now on."
+        later = "Calls from before the indexes stood are in it too; the next call of effect leaves them out."
         self.assertEqual(lines[2], later)
         lines = lines_of(self.found(2, 1, counted=counted, make=["psql -X"]))
-        self.assertEqual(lines[2], "Calls before the indexes stood count too.")
+        self.assertEqual(lines[2], "Calls from before the indexes stood are in it too.")
         self.assertEqual(lines[-2:], ["to make the others:", "psql -X"])
 
 
@@ -303,7 +318,9 @@ class Effect(OverOwn):
         self.assertEqual(summary.splitlines()[-1], then)
         kept = self.folder / "advice of today" / "effect.json"
         text = self.call("effect", self.found, status=3).stdout
-        begin = "None of the 3 indexes is there.\nBy the server's planner the statements cost 0.0 % less; the advice "
+        begin = (
+            "None of the 3 indexes is there.\nBy the server's planner the statements would take 0.0 % less of the time "
+        )
         self.assertTrue(text.startswith(begin), text)
         self.assertIn(" with all.\n", text)
         self.assertEqual(text.count("      not made  "), 3)

@@ -54,6 +54,11 @@ def percent(number: float) -> str:
     return f"{round(number, 1) + 0.0:,.1f} %"
 
 
+def about(number: float) -> str:
+    """A number of percent, without a fraction where it is no less than one."""
+    return f"{number:.0f} %" if number >= 1 else percent(number)
+
+
 def share(part: float, whole: float) -> str:
     """A part in percent of a whole."""
     return f"{100 * part / whole:,.1f} %" if whole else "0.0 %"

@@ -10,9 +10,10 @@ from cophy_text.files import NoFile
 from cophy_text.shown import short
 from cophy_pg import folder, inputs
 from cophy_pg.changes import Found
-from cophy_pg.closing import commands_of, doubts_of, made_hints, recommended_of
+from cophy_pg.closing import commands_of, doubts_of, made_hints, recommended_of, time_falls
 from cophy_pg.effect_text import lines_of
 from cophy_pg.folder import Folder
+from cophy_pg.guesses import seconds_of
 from cophy_pg.included import searched_columns
 from cophy_pg.inputs import NoInput
 from cophy_pg.measured import Measured, a_call, given_of, measured_since
@@ -92,8 +93,8 @@ def _refuse_another(server: Server, document: dict[str, Any]) -> None:
 
 
 def _cost(server: Server, given: Given, is_trusted: bool) -> dict[str, Any] | None:
-    """What the statements that the server explained cost then and now, and in percent what was advised; nothing where
-    it explains none any more."""
+    """What the statements that the server explained cost then and now, and in percent what was advised, of their time
+    too; nothing where it explains none any more."""
     document = given.document
     then = [it for it in document["statements"] if it["server_cost"]]
     found = [Verdict(at, given_of(it, given.paths), dict.fromkeys(it["numbers"], 1.0)) for at, it in enumerate(then, 1)]
@@ -115,7 +116,17 @@ def _cost(server: Server, given: Given, is_trusted: bool) -> dict[str, Any] | No
         "before": round(sum(it.calls * before for it, before in known), 4),
         "now": round(sum(it.calls * (it.before or 0.0) for it, _ in known), 4),
         "advised": round(max(0.0, 100 * after / whole - hints), 4) if whole else 100.0,
+        "time": _time_saved(document, known),
     }
+
+
+def _time_saved(document: dict[str, Any], known: list[tuple[Verdict, float]]) -> dict[str, float] | None:
+    """How many percent of the measured time are saved now, and by the advice, if it falls like the costs of statements;
+    nothing where some time isn't known."""
+    if not (whole := seconds_of(document["statements"])):
+        return None
+    saved = sum((it.input.seconds or 0.0) * (1 - (it.before or 0.0) / before) for it, before in known if before)
+    return {"saved": round(100 * saved / whole, 4), "advised": round(time_falls(document), 4)}
 
 
 def _counted(server: Server, given: Given, is_trusted: bool) -> dict[str, Any] | None:

@@ -3,13 +3,13 @@ from __future__ import annotations
 
 from typing import Any
 
-from cophy_text.shown import grouped, percent, share, short
+from cophy_text.shown import about, grouped, percent, short
 from cophy_pg.measured import SLOWER
 from cophy_pg.standing import THERE
 
-MOST_LINES, MOST_STATEMENTS, MOST_SLOWER, LEAST = 20, 10, 3, 4
-"""About so many lines are printed, of them at most so many statements, of these so many that got slower; and at least so many
-rows of indexes and of statements."""
+MOST_LINES, MOST_INDEXES, MOST_STATEMENTS, MOST_SLOWER, LEAST = 20, 12, 10, 3, 4
+"""About so many lines are printed; all indexes where they are so many, at most so many statements, of these so many that got
+slower; and at least so many rows of statements, and of more indexes."""
 
 
 def lines_of(found: dict[str, Any]) -> list[str]:
@@ -18,7 +18,8 @@ def lines_of(found: dict[str, Any]) -> list[str]:
     statements = found["counted"]["statements"] if found["counted"] else []
     # Each of both has a blank line and one of names.
     room = MOST_LINES - len(head) - len(end) - 4
-    rows = min(len(indexes), max(LEAST, room - min(len(statements), MOST_STATEMENTS)))
+    least = LEAST if len(indexes) > MOST_INDEXES else len(indexes)
+    rows = min(len(indexes), max(least, room - min(len(statements), MOST_STATEMENTS)))
     others = min(MOST_STATEMENTS, max(LEAST, room - rows))
     return [*head, *_indexes(indexes, rows), *_statements(statements, others), *end]
 
@@ -43,19 +44,31 @@ def _by_clock(found: dict[str, Any]) -> list[str]:
         are = "statement is" if slower == 1 else "statements are"
         lines += [f"{slower} {are} slower by more than half: look at EXPLAIN ANALYZE of what is marked with a !."]
     if counted["begin"] == "advice":
-        later = "" if found["make"] else "; called again later, this counts from now on"
-        lines += [f"Calls before the indexes stood count too{later}."]
+        later = "" if found["make"] else "; the next call of effect leaves them out"
+        lines += [f"Calls from before the indexes stood are in it too{later}."]
     return lines
 
 
 def _by_planner(found: dict[str, Any]) -> list[str]:
-    """What is saved of the cost of the statements, and what the advice said."""
+    """What is saved by the server's planner, and what the advice said: of the time where that is known, as in its summary,
+    or else of the cost."""
     if not (cost := found["server_cost"]):
         return []
     part = f"{cost['statements']} of {cost['of']}" if cost["statements"] < cost["of"] else "the"
-    saved, said = share(cost["before"] - cost["now"], cost["before"]), percent(100 - cost["advised"])
-    with_all = " with all" * any(it["state"] != THERE for it in found["indexes"])
-    return [f"By the server's planner {part} statements cost {saved} less; the advice said {said}{with_all}."]
+    if time := cost["time"]:
+        saved, said, what, shown = (
+            time["saved"],
+            time["advised"],
+            "would take {} of the time measured for queries",
+            about,
+        )
+    else:
+        saved = 100 * (cost["before"] - cost["now"]) / cost["before"] if cost["before"] else 0.0
+        said, what, shown = 100 - cost["advised"], "cost {}", percent
+    is_more = saved <= -0.05
+    changed = what.format(f"{shown(abs(saved))} {'more' if is_more else 'less'}")
+    with_all = " less" * is_more + " with all" * any(it["state"] != THERE for it in found["indexes"])
+    return [f"By the server's planner {part} statements {changed}; the advice said {shown(said)}{with_all}."]
 
 
 def _is_slower(it: dict[str, Any]) -> bool:
@@ -95,8 +108,9 @@ def _indexes(indexes: list[dict[str, Any]], most: int) -> list[str]:
         uses, number = grouped(it["scans"]) if it["state"] == THERE else it["state"], f"{it['place']}."
         lines += [f"{number:>3} {uses:>13}  {short(it['index'], 80)}"]
     rest = by_need[len(shown) :]
-    there = sum(it["state"] == THERE for it in rest)
-    return lines + [f"and {len(rest)} more, of which {there} are there"] * bool(rest)
+    scans = [it["scans"] for it in rest if it["state"] == THERE]
+    used = f"{len(scans)} are there, {sum(it > 0 for it in scans)} of them in use"
+    return lines + [f"and {len(rest)} more, of which {used}"] * bool(rest)
 
 
 def _statements(every: list[dict[str, Any]], most: int) -> list[str]:

@@ -5,7 +5,7 @@ from typing import Any
 
 from cophy_text import files
 from cophy_text.answers import counted
-from cophy_text.shown import percent, share, space
+from cophy_text.shown import about, percent, share, space
 from cophy_pg import folder
 from cophy_pg.closing import (
     commands_of,
@@ -84,8 +84,7 @@ def _saved(document: dict[str, Any]) -> str:
     """What is saved of the measured time where that is known, or else of the cost."""
     falls = _percent_saved(document)
     if time := time_of(document):
-        about = f"{falls:.0f} %" if falls >= 1 else percent(falls)
-        return f"about {about} of {time}, if time falls like the planner's cost"
+        return f"about {about(falls)} of {time}, if time falls like the planner's cost"
     return f"{percent(falls)} of the cost by the server's planner"
 
 
