@@ -270,7 +270,7 @@ class Verdict(OverDocument):
             it["owner"] = "app" if at % 2 else "root"
         self.document["picks"][0]["caveat"] = "it saves 0.4 %"
         self.document |= {"owners": ["root", "app", "none"], "host": "localhost", "port": 5432}
-        self.assertTrue(self.verdict()[-4].endswith(", a line for each owner:"))
+        self.assertTrue(self.verdict()[-4].endswith(", a line for each owner, -v undo=1 takes them back:"))
         place = "-p 5432 -d 'shop & <b>'"
         wanted = [
             f"sudo -u root psql -X {place} -v without=1,3,5 < /home/you/advice/indexes.sql",

@@ -57,9 +57,11 @@ def verdict(document: dict[str, Any], kept: Folder) -> list[str]:
         known = [it["build_seconds"] for _, it in advised or picks if it.get("build_seconds") is not None]
         time = f" (about {duration(sum(known))}, reads and writes go on)" if known and not _locks(document) else ""
         script = kept.path(folder.DDL)
-        commands = commands_of(document, script)
-        lines += [f"make them{time}{', a line for each owner' * (len(commands) > 1)}:", *commands]
-        lines += [*member_of(document, script), seen_by(kept)]
+        commands, member = commands_of(document, script), member_of(document, script)
+        each = ", a line for each owner" * (len(commands) > 1)
+        # There are words left for this where no other line makes them.
+        back = ", -v undo=1 takes them back" * (not member)
+        lines += [f"make them{time}{each}{back}:", *commands, *member, seen_by(kept)]
     return lines
 
 
