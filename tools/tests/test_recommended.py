@@ -13,15 +13,18 @@ from test_page import MISSING, change, document, plans
 NO_SERVER = missing() or ("" if has_extension("hypopg") else "postgresql-15-hypopg isn't installed")
 INDEXES = """CREATE SCHEMA hypopg; CREATE EXTENSION hypopg SCHEMA hypopg; CREATE TABLE t (a int, b int, c text);
 CREATE INDEX same ON t (a, b); CREATE INDEX first ON t (a); CREATE INDEX down ON t (a DESC); CREATE INDEX more ON t (a) INCLUDE (b);
-CREATE UNIQUE INDEX single ON t (a); CREATE INDEX part ON t (a) WHERE b = 1; CREATE INDEX pattern ON t (c text_pattern_ops)"""
+CREATE UNIQUE INDEX single ON t (a); CREATE INDEX part ON t (a) WHERE b = 1; CREATE INDEX pattern ON t (c text_pattern_ops, a);
+CREATE INDEX askew ON t (b, a DESC); CREATE INDEX wide ON t (b, a) INCLUDE (c)"""
 
 
 def pick(number: int, ours: float, server: float, **more: Any) -> dict[str, Any]:
     """A pick that plans take."""
-    saves = {"saves": {"ours": ours, "server": server, "measured": None}, "number": number, "stored_pages": 128}
+    saves = {"saves": {"ours": ours, "server": server, "measured": None, "cost_without": 9}, "number": number}
     plain = {
+        "stored_pages": 128,
         "outcome": "taken",
         "clustered": False,
+        "begins": None,
         "long_likely": [],
         "changes": [change(1, "SELECT 1", ours, server)],
     }
@@ -36,7 +39,9 @@ class Recommended(unittest.TestCase):
         charged = [change(1, "SELECT 1", 30.0, 20.0), change(2, "UPDATE t", -16.0, 0.0)]
         little = [change(1, "SELECT 1", 0.01, 20.0), change(2, "UPDATE t", -0.01, 0.0)]
         # By our model it saves little cost, but of statements that have much of the time.
-        timed = {"ours": 0.2, "server": 0.0, "measured": 3.0}
+        timed = {"ours": 0.2, "server": 0.0, "measured": 3.0, "cost_without": 9}
+        costly = {"ours": -0.01, "measured": None, "cost_without": 8}
+        less = "by our model the workload costs less without it, and "
         for given, why in (
             (pick(1, 20.0, 10.0), ""),
             (
@@ -50,10 +55,57 @@ class Recommended(unittest.TestCase):
             (pick(1, 0.0, 20.0, changes=little), ""),
             (pick(1, 20.0, 0.0, outcome="unknown"), "whether plans take it isn't known"),
             (pick(1, 20.0, 0.0, outcome="unknown", clustered=True), ""),
+            (pick(1, 0, 0, saves=costly | {"server": 1.9}), f"{less}the server saves 1.9 %"),
+            (pick(1, 0, 0, saves=costly | {"server": 1, "planned": 1.5}), f"{less}it saves 1.5 % of the measured time"),
+            (pick(1, 0, 0, saves=costly | {"server": 2.0}), ""),
+            (pick(1, 0, 0, saves=costly | {"server": 1.0, "planned": 2.0}), ""),
+            (pick(1, 0, 0, saves=costly | {"server": 1.9, "cost_without": 9}), ""),
             (pick(1, 20.0, 10.0, long_likely=["a"]), "an INSERT of more than 2,704 bytes in a would fail"),
         ):
             with self.subTest(why=why):
-                self.assertEqual(caveat_of(given, {"statements": [{"seconds": 3.0}]}), why)
+                self.assertEqual(caveat_of(given, {"statements": [{"seconds": 3.0}], "cost": {"after": 9}}), why)
+
+    def test_one_that_another_begins_with_has_to_save_more(self) -> None:
+        from cophy_text.answers import Candidate
+        from cophy_pg.recommended import served
+
+        texts = ("t a", "t ab", "t abc", "s ax", "t ba", "t c")
+        every = [Candidate(at, it[0], tuple(it[2:]), 9) for at, it in enumerate(texts)]
+
+        def why(given: dict[str, Any], at: int = 0, searched: set[str] | None = None) -> str:
+            return served(given, every[at], every, searched)
+
+        little, there = pick(0, 9.0, 4.9), pick(0, 0.0, 1.0, begins="'public'.'more'")
+        self.assertEqual(why(little), "t(a, b, c) serves it too")
+        self.assertEqual(why(little, 1), "t(a, b, c) serves it too")
+        for at in (2, 3, 4, 5):
+            self.assertEqual(why(little, at), "")
+        self.assertEqual(why(there), "'public'.'more' serves it too")
+        # What saves more by the server, or by its planner of the measured time, stays, and what it can't judge.
+        saves = {"ours": 0.0, "server": 1.0, "planned": 5.0}
+        for more in (pick(0, 0.0, 5.0), pick(0, 0, 0, saves=saves), pick(0, 0.0, 1.0, clustered=True)):
+            self.assertEqual(why(more | {"begins": "'public'.'more'"}), "")
+        # Where all but a are only read, all have the same key.
+        self.assertEqual(why(little, searched={"a"}), "")
+        self.assertEqual(why(little, 1, {"a", "c"}), "t(a, b, c) serves it too")
+
+    def test_only_one_that_is_recommended_serves_too(self) -> None:
+        from cophy_text.answers import Candidate
+        from cophy_pg.result import Result
+
+        def caveats(*asked: int, longest: float = 4.0) -> dict[int, str]:
+            """Of a, ab and abc; the last one saves so much."""
+            ranked = [pick(0, 4.0, 4.0), pick(1, 4.0, 4.0), pick(2, longest, longest)]
+            picks = [Candidate(at, "t", tuple("abc"[: at + 1]), 9) for at in range(3)]
+            given = mock.Mock(ranked=ranked, reasons=[mock.Mock(pick=it) for it in picks])
+            given.workload.records, given.schema.searched, given.prices = [], None, (None, mock.Mock(total=9))
+            return Result.caveats(given, {*asked})
+
+        self.assertEqual(caveats(), dict.fromkeys((0, 1), "t(a, b, c) serves it too"))
+        self.assertEqual(caveats(1), {0: "t(a, b, c) serves it too"})
+        little = {2: "it saves 0.5 % at most, by any measure"}
+        self.assertEqual(caveats(longest=0.5), little | {0: "t(a, b) serves it too"})
+        self.assertEqual(caveats(2, longest=0.5), dict.fromkeys((0, 1), "t(a, b, c) serves it too"))
 
     def test_one_that_stands_for_another_stays(self) -> None:
         from cophy_pg.recommended import without_caveats
@@ -118,7 +170,7 @@ class Recommended(unittest.TestCase):
 
 @unittest.skipIf(MISSING or NO_SERVER, MISSING or NO_SERVER)
 class Superfluous(unittest.TestCase):
-    def test_it_is_what_a_new_index_begins_with(self) -> None:
+    def test_it_is_what_a_new_index_begins_with_or_what_begins_with_it(self) -> None:
         from cophy_text.answers import Advice, Candidate
         from cophy_pg.picks import make
         from cophy_pg.schema import Column, Schema, Table
@@ -128,10 +180,12 @@ class Superfluous(unittest.TestCase):
         self.addCleanup(server.stop)
         server.psql(INDEXES)
         schema = Schema([Table("public", "t", "t", columns={it: Column(it, it) for it in "abc"})])
-        picks = [Candidate(at, "t", tuple(it), 9) for at, it in enumerate(("abc", "cb", "ab"), 1)]
+        picks = [Candidate(at, "t", tuple(it), 9) for at, it in enumerate(("abc", "cb", "ab", "b", "c"), 1)]
         with mock.patch.dict(os.environ, server.environment()), connected() as session, reading(session):
-            found = [it.superfluous for it in make(session, schema, Advice(9, picks))[0]]
-        self.assertEqual(found, [['"public"."first"', '"public"."same"'], [], ['"public"."first"']])
+            made = make(session, schema, Advice(9, picks))[0]
+        found = [['"public"."first"', '"public"."same"'], [], ['"public"."first"'], [], []]
+        self.assertEqual([it.superfluous for it in made], found)
+        self.assertEqual([it.begins for it in made], ["", "", "", "'public'.'wide'", ""])
 
 
 if __name__ == "__main__":

@@ -192,7 +192,7 @@ class Run:
     def _recommended(self, result: Result, rounds: Rounds, asked: set[int]) -> Recommended:
         """Which picks stay when those are left out that there are caveats about, and that no rule asks for."""
         picks, judged, choice, doubted = result.ranked, result.judged, result.choice.advice, result.plans.doubted
-        caveats = {number: why for number, why in result.caveats().items() if number not in asked}
+        caveats = result.caveats(asked)
         all_, whole = (result.prices[1].total, judged.sums()[2]), (result.prices[0].total, judged.sums()[1])
         if not caveats:
             return Recommended({}, all_)

@@ -1,6 +1,7 @@
 """What is wrong with the indexes of a database: each finding names an index and the reasons."""
 from __future__ import annotations
 
+from collections.abc import Collection, Sequence
 from dataclasses import dataclass, field
 
 from cophy_pg.existing import Column, Everything, Existing, Key
@@ -100,6 +101,13 @@ def _duplicates(listed: list[Existing]) -> list[tuple[Existing, Existing]]:
     return found
 
 
+def is_prefix(
+    keys: Sequence[object], columns: Collection[object], others: Sequence[object], their: Collection[object]
+) -> bool:
+    """Whether an index with other keys, that begin with these, and with all of its columns serves what it serves."""
+    return len(keys) < len(others) and [*others[: len(keys)]] == [*keys] and {*columns} <= {*their}
+
+
 def _prefixes(listed: list[Existing]) -> list[tuple[Existing, Existing]]:
     """Each index whose keys another one begins with, with that one. One that is scanned isn't given up for one that may go
     itself."""
@@ -108,10 +116,8 @@ def _prefixes(listed: list[Existing]) -> list[tuple[Existing, Existing]]:
         if it.method != "btree" or it.is_bound or it.is_unique or it.expressions:
             continue
         for other in (other for other in listed if _is_unused(it) or not _is_unused(other)):
-            begins = other.parts[: it.keys] == it.parts and other.keys > it.keys
-            holds = (
-                set(it.included()) <= set(other.columns) and other.predicate == it.predicate and not other.expressions
-            )
+            begins = is_prefix(it.parts, it.columns, other.parts, other.columns)
+            holds = other.predicate == it.predicate and not other.expressions
             if other.method == "btree" and begins and holds and other.is_partitioned == it.is_partitioned:
                 found.append((it, other))
                 break

@@ -64,12 +64,17 @@ def saved_of(pick: dict[str, Any]) -> float:
     return float(pick["saves"]["server" if is_judged(pick) else "ours"] if time is None else time)
 
 
+def by_server(pick: dict[str, Any]) -> tuple[float, str]:
+    """What a pick saves by the server's planner, of the cost or of the measured time, whichever is more, and its words."""
+    server, time = (float(pick["saves"].get(it) or 0.0) for it in ("server", "planned"))
+    what = f"it saves {percent(time)} of the measured time" if time > server else f"the server saves {percent(server)}"
+    return max(server, time), what
+
+
 def doubt_of(pick: dict[str, Any]) -> str:
     """What there is to say of a pick that by the server, of the cost and of the measured time, saves far less than by our model."""
-    kinds = ("ours", "measured", "server", "planned")
-    *ours, server, time = (float(pick["saves"].get(it) or 0.0) for it in kinds)
-    saved = max(server, time)
-    if not is_judged(pick) or saved >= FEW or max(ours) < max(LITTLE, FAR * saved):
+    ours = max(float(pick["saves"].get(it) or 0.0) for it in ("ours", "measured"))
+    saved, what = by_server(pick)
+    if not is_judged(pick) or saved >= FEW or ours < max(LITTLE, FAR * saved):
         return ""
-    what = f"it saves {percent(time)} of the measured time" if time > server else f"the server saves {percent(server)}"
     return f"{what}: probably not worth {space(pick['stored_pages'])}"

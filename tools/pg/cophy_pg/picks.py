@@ -6,6 +6,7 @@ from typing import Any
 
 from cophy_text.answers import Advice
 from cophy_pg.ddl import names_of, why_not
+from cophy_pg.findings import is_prefix
 from cophy_pg.included import key_count
 from cophy_pg.outcomes import Outcome
 from cophy_pg.schema import Schema, Table
@@ -17,7 +18,7 @@ _INDEXES = """
 SELECT n.nspname::text, x.relname::text, i.indisclustered, i.indnkeyatts::int4,
     ARRAY(SELECT a.attname::text FROM unnest(i.indkey::int2[]) WITH ORDINALITY k(number, at)
         JOIN pg_catalog.pg_attribute a ON a.attrelid = i.indrelid AND a.attnum = k.number ORDER BY k.at),
-    NOT (i.indisunique OR i.indisclustered OR i.indisreplident) AND i.indnkeyatts = i.indnatts AND NOT EXISTS (
+    NOT (i.indisunique OR i.indisclustered OR i.indisreplident) AND i.indnkeyatts = i.indnatts, NOT EXISTS (
         SELECT FROM unnest(i.indkey::int2[], i.indclass::oid[], i.indcollation::oid[], i.indoption::int2[])
             p(number, class, coll, way)
         JOIN pg_catalog.pg_attribute a ON a.attrelid = i.indrelid AND a.attnum = p.number
@@ -117,21 +118,19 @@ def make(server: Server, schema: Schema, advice: Advice) -> tuple[list[Outcome],
 
 def _there(server: Server, table: Table, columns: list[str], new_keys: int, outcome: Outcome) -> str | None:
     """The name of an index over these columns alone; another that begins with them is noted, and those with which their keys
-    begin. Where the rows don't lie in its
-    order, it is the one of a clustered pick, of which plans show nothing."""
+    begin. Where the rows don't lie in its order, it is the one of a clustered pick, of which plans show nothing."""
     same = ""
-    for schema, name, clusters, count, keys, is_plain in server.rows(_INDEXES, (table.schema, table.name)):
-        if is_plain and len(keys) < len(columns) and keys == columns[:new_keys][: len(keys)]:
+    for schema, name, clusters, count, keys, may_go, is_plain in server.rows(_INDEXES, (table.schema, table.name)):
+        shown, is_same = f"{str(schema)!a}.{str(name)!a}", keys == columns and len(columns) <= int(count)
+        if is_plain and not is_same and is_prefix(columns[:new_keys], columns, keys[: int(count)], keys):
+            outcome.begins = outcome.begins or shown
+        if may_go and is_plain and len(keys) < len(columns) and keys == columns[:new_keys][: len(keys)]:
             outcome.superfluous.append(f"{quoted_name(str(schema))}.{quoted_name(str(name))}")
-        if keys[: len(columns)] != columns or len(columns) > int(count):
-            continue
-        shown, is_same = f"{str(schema)!a}.{str(name)!a}", len(keys) == len(columns)
         lies = clusters or any(it.ordered and it.name == name for it in table.indexes)
         if is_same and (lies or not outcome.pick.is_clustered):
             outcome.exists = shown
             return str(name)
         same = same or shown * is_same
-        outcome.begins = outcome.begins or shown * (not is_same)
     if same:
         outcome.reasons[f"its index is there, as {same}, and plans don't show its order"] = ""
     return None

@@ -6,13 +6,18 @@ from collections.abc import Callable, Iterable
 from dataclasses import dataclass, field
 from typing import Any
 
+from cophy_text.answers import Candidate
 from cophy_text.shown import percent, share
-from cophy_pg.guesses import doubt_of, is_judged, warning_of
+from cophy_pg.findings import is_prefix
+from cophy_pg.guesses import FEW, by_server, doubt_of, is_judged, warning_of
+from cophy_pg.included import key_count
 from cophy_pg.unlimited import warning
 
 LITTLE = 1
 """What an index has to save, in percent, by our model, by the server or of the measured time."""
 KINDS = ("ours", "server", "measured")
+LEAST_AGAINST = 2
+"""What one has to save by the server, in percent, where the workload costs less without it by our model."""
 MOST_CHARGED = 0.5
 """Of what a pick saves at reading writes may take so much."""
 Costs = tuple[int, float]
@@ -42,7 +47,34 @@ def caveat_of(pick: dict[str, Any], document: dict[str, Any]) -> str:
     gained = max(saved, sum(max(0.0, it["ours"]) for it in pick["changes"]))
     if charged > MOST_CHARGED * gained and is_judged(pick):
         return f"writes take {share(charged, gained)} of what it saves"
-    return doubt_of(pick) or warning_of(pick, document)
+    return _cost_of(pick, document) or doubt_of(pick) or warning_of(pick, document)
+
+
+def _cost_of(pick: dict[str, Any], document: dict[str, Any]) -> str:
+    """What there is to say of a pick without which the workload costs less by our model, and that saves little by the server."""
+    saved, what = by_server(pick)
+    if not is_judged(pick) or saved >= LEAST_AGAINST or pick["saves"]["cost_without"] >= document["cost"]["after"]:
+        return ""
+    return f"by our model the workload costs less without it, and {what}"
+
+
+def served(pick: dict[str, Any], candidate: Candidate, others: Iterable[Candidate], searched: set[str] | None) -> str:
+    """Which index of the server, or else of the others that are recommended the longest, serves what a pick serves that saves few
+    percent beside it; nothing where none does."""
+    if not is_judged(pick) or by_server(pick)[0] >= FEW:
+        return ""
+
+    def keys(it: Candidate) -> tuple[str, ...]:
+        return it.columns[: key_count(it, searched)]
+
+    serving = [
+        it
+        for it in others
+        if it.table == candidate.table and is_prefix(keys(candidate), candidate.columns, keys(it), it.columns)
+    ]
+    longest = max(serving, key=lambda it: len(keys(it)), default=None)
+    name = pick["begins"] or (longest.shown() if longest else "")
+    return f"{name} serves it too" if name else ""
 
 
 def without_caveats(

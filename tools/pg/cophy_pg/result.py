@@ -16,7 +16,7 @@ from cophy_pg.guesses import is_guessed, saved_of, whole_of
 from cophy_pg.hints import Found, Room, documents_of
 from cophy_pg.outcomes import ORDINARY, Outcome
 from cophy_pg.plans import Plans
-from cophy_pg.recommended import LITTLE, Recommended, caveat_of
+from cophy_pg.recommended import LITTLE, Recommended, caveat_of, served
 from cophy_pg.rewrite.parse import without_literals
 from cophy_pg.schema import Schema
 from cophy_pg.sizes import stored_size
@@ -97,11 +97,17 @@ class Result:
         """The numbers of the picks in the order in which they are shown and made."""
         return [it["number"] for it in self.plain_picks()]
 
-    def caveats(self) -> dict[int, str]:
-        """Why picks aren't recommended where all are there, by their numbers."""
+    def caveats(self, asked: set[int]) -> dict[int, str]:
+        """Why picks aren't recommended where all are there, by their numbers, but for those that are asked for."""
         statements = [{"seconds": it.input.seconds} for it in self.workload.records]
-        found = {it["number"]: caveat_of(it, {"statements": statements}) for it in self.ranked}
-        return {number: why for number, why in found.items() if why}
+        document = {"statements": statements, "cost": {"after": self.prices[1].total}}
+        judged = {it["number"]: it for it in self.ranked if it["number"] not in asked}
+        found = {number: why for number, it in judged.items() if (why := caveat_of(it, document))}
+        others = {it.pick.number: it.pick for it in self.reasons if it.pick.number not in found}
+        for number in others.keys() & judged.keys():
+            if why := served(judged[number], others[number], others.values(), self.schema.searched):
+                found[number] = why
+        return found
 
     def places_left_out(self) -> list[int]:
         """The places, from 1, of the picks that aren't recommended."""
