@@ -241,6 +241,19 @@ class Health(OverOwn):
         said = self.health("--folder", str(self.folder), "--program", fake, status=3).stdout
         count = text.count("[[table.index]]")
         self.assertIn(f"--   by our model the workload costs {91 - count} without it, ", said)
+        self.assertIn("-- keep it: the workload needs it", said)
+        # One that was made since then serves what another one did.
+        one = """'"people_name"' "$2" || grep -q '"fresh"'"""
+        fake = self.lay_program(f'#!/bin/sh\ngrep -q {one} "$2" && echo total 1000 || echo total 1010\n')
+        for statement, cost in (("", 1010), ("CREATE INDEX fresh ON people (name, born, id)", 1000)):
+            self.server.psql(statement, "health")
+            words = ("--folder", str(self.folder), "--program", fake, "--json")
+            listed = json.loads(self.health(*words, status=3).stdout)["indexes"]
+            found = {it["name"]: it for it in listed}["people_name"]
+            self.assertEqual(found["cost"], {"before": 1000, "without": cost})
+            drop = 'DROP INDEX CONCURRENTLY "public"."people_name";'
+            self.assertEqual((found["may_go"], found["statement"]), (cost == 1000, drop if cost == 1000 else None))
+        self.server.psql("DROP INDEX fresh", "health")
 
 
 if __name__ == "__main__":

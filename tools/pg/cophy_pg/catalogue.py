@@ -53,8 +53,13 @@ def catalogue_text(schema: Schema, rates: dict[str, int], head: list[str]) -> st
         for column in (*table.columns.values(), *table.spares):
             lines += ["", "[[table.column]]", *_lines(_column(column))]
         for index in table.indexes:
-            lines += ["", "[[table.index]]", *_lines(_index(index, table))]
+            lines += ["", *index_lines(index, table)]
     return "\n".join(lines) + "\n"
+
+
+def index_lines(index: Index, table: Table) -> list[str]:
+    """The block of an index."""
+    return ["[[table.index]]", *_lines(_index(index, table))]
 
 
 def _table(table: Table) -> dict[str, object]:

@@ -24,6 +24,8 @@ class Finding:
 
     index: Existing
     reasons: dict[str, str] = field(default_factory=dict)
+    is_needed: bool = False
+    """Whether a workload costs more without it."""
 
     def is_small(self, pages: int) -> bool:
         """Whether it is said only that an index of fewer pages is unused."""
@@ -31,7 +33,7 @@ class Finding:
 
     def may_go(self) -> bool:
         """Whether a reason is one to drop the index."""
-        return any(it in DROPPED for it in self.reasons)
+        return not self.is_needed and any(it in DROPPED for it in self.reasons)
 
 
 def findings(found: Everything) -> list[Finding]:

@@ -15,8 +15,8 @@ from cophy_pg.findings import UNATTACHED, Finding, findings
 from cophy_pg.folder import Folder
 from cophy_pg.program import Program, ProgramFault, add_program
 from cophy_pg.progress import Progress, say
-from cophy_pg.server import add_connection, connected, reading
-from cophy_pg.without import Without
+from cophy_pg.server import Row, add_connection, connected, reading
+from cophy_pg.without import Without, read_standing
 
 FOUND = 3
 """The status where there is something to say."""
@@ -24,6 +24,9 @@ YOUNG = 14
 """Scans that were counted for fewer days may miss what runs once a month."""
 MIN_SIZE = 128
 """Smaller indexes that are unused cost little."""
+NOTICED = 1
+"""An index without which the workload costs so many percent more stays."""
+KEEP = "keep it: the workload needs it"
 LEAST_ROWS = 1000
 """Of smaller tables a foreign key needs no index."""
 
@@ -52,11 +55,15 @@ def health(words: argparse.Namespace) -> int:
     """Prints what is found."""
     with connected(words.dsn, words.timeout) as server, reading(server):
         everything = read_everything(server)
+        standing = read_standing(server) if words.folder else []
     every = findings(everything)
     found = [it for it in every if not it.is_small(words.min_size)]
     few = len(every) - len(found)
     keys = [it for it in everything.keys if it.rows >= LEAST_ROWS and not it.serving]
-    prices = _prices(words, found) if words.folder else {}
+    prices = _prices(words, found, everything, standing) if words.folder else {}
+    for finding in found:
+        before, without = prices.get(finding.index.oid, (0, 0))
+        finding.is_needed = without - before >= NOTICED * before / 100 and without > before
     for it in everything.faults:
         say(f"warning: {it}, so its size or its scans aren't known")
     if words.json:
@@ -71,12 +78,15 @@ def health(words: argparse.Namespace) -> int:
     return FOUND if found or keys else 0
 
 
-def _prices(words: argparse.Namespace, found: list[Finding]) -> dict[int, tuple[int, int]]:
+def _prices(
+    words: argparse.Namespace, found: list[Finding], everything: Everything, standing: list[Row]
+) -> dict[int, tuple[int, int]]:
     """The workload's cost with and without each index that may go, by its number."""
     kept, progress = Folder(words.folder), Progress()
     prices: dict[int, tuple[int, int]] = {}
     try:
-        without = Without(words.program, kept.path(kept.whole()), kept.path(folder.WORKLOAD))
+        paths = (kept.path(kept.whole()), kept.path(folder.WORKLOAD))
+        without = Without(words.program, *paths, everything, standing)
         for it in found:
             progress(f"pricing without {it.index.name!a}")
             cost = without.cost(it.index) if it.may_go() else None
@@ -92,8 +102,11 @@ def shown(it: Existing) -> str:
     return f"{written_name(it.schema)}.{written_name(it.name)}"
 
 
-def _statement(it: Finding) -> str:
-    """The statement that mends it. Of a partitioned table an index is neither made nor dropped CONCURRENTLY."""
+def _statement(it: Finding) -> str | None:
+    """The statement that mends it; nothing where the workload needs it. Of a partitioned table an index is neither made nor dropped
+    CONCURRENTLY."""
+    if it.is_needed:
+        return None
     if it.may_go():
         return f"DROP INDEX {'' if it.index.is_partitioned else 'CONCURRENTLY '}{shown(it.index)};"
     if UNATTACHED in it.reasons:
@@ -124,7 +137,7 @@ def _lines(
         lines += [f"--   {why}" for why in it.reasons.values()]
         if it.index.oid in prices:
             lines += [f"--   {_price(*prices[it.index.oid])}"]
-        lines += [f"-- {_statement(it)}"]
+        lines += [f"-- {_statement(it) or KEEP}"]
     for key in keys:
         lines += ["", f"-- the foreign key {key.name!a} of {written_name(key.table)} to {key.other!a} has no index:"]
         lines += [
