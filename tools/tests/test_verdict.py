@@ -20,7 +20,7 @@ class Verdict(OverDocument):
         first = [
             "Make these 5 indexes: 20.0 MB of the budget of 2,048.0 MB.",
             "They save about 83 % of the 1.6 s measured for queries, if time falls like the planner's cost.",
-            "No indexes within the budget save more by our model (proved).",
+            "2,028.0 MB stay free: nothing fitting saves more by our model (proved).",
         ]
         self.assertEqual(lines[: lines.index("")], first)
         at = next(at for at, it in enumerate(lines) if it.startswith(" 1."))
@@ -36,8 +36,13 @@ class Verdict(OverDocument):
         made = rf"""-c 'CREATE USER "(\w+)"' -c 'GRANT "app" TO "\1"'"""
         self.assertRegex(lines[-2], rf"^sudo -u postgres psql {where} {made} && PGUSER= psql -X {where} .* -f /home/")
         self.assertEqual(lines[-1], "whether it helped: cophy-pg effect /home/you/advice")
-        self.assertEqual([it for it in lines if "MB" in it], [lines[0], lines[at - 1]])
+        self.assertEqual([it for it in lines if "MB" in it], [lines[0], lines[2], lines[at - 1]])
+        self.document["asked_pages"] = 2660
+        self.assertEqual(self.verdict()[2], "No indexes within the budget save more by our model (proved).")
+        self.document |= {"asked_pages": 128 * 2048, "unused": "9.0 MB stay free: so it is; or so"}
+        self.assertNotIn("9.0 MB stay free: so it is", self.verdict())
         self.document["cost"]["bound"] = 1796000
+        self.assertIn("9.0 MB stay free: so it is", self.verdict())
         self.assertTrue(self.verdict()[2].startswith("Others within the budget save at most 0.1 % of the cost more by"))
         self.document["recommended"]["picks"], self.document["picks"] = 1, self.document["picks"][:1]
         self.assertEqual(self.verdict()[0], "Make this index: 20.0 MB of the budget of 2,048.0 MB.")
