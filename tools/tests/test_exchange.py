@@ -10,6 +10,8 @@ from pathlib import Path
 from cophy_text.answers import Candidate
 from fixtures import COPHY, NO_PARSER, ROOT, STAND_IN, InFolder
 
+SEARCH = "searching for indexes, search"
+
 if not NO_PARSER:
     from cophy_pg import folder
     from cophy_pg.budget import filled, room_in
@@ -192,15 +194,15 @@ class OverTheStandIn(InFolder):
         for _ in range(2):
             told.clear()
             searches.filling(schema, Rules())
-            numbers = [int(it.split()[1]) for it in told if it.endswith(f" of at most {MOST_SEARCHES}")]
+            numbers = [int(it.split()[4]) for it in told if it.endswith(f" of at most {MOST_SEARCHES}")]
             self.assertEqual(numbers, [*range(1, len(numbers) + 1)])
             self.assertGreater(len(numbers), 1)
-            others = {*told} - {f"search {it} of at most {MOST_SEARCHES}" for it in numbers}
+            others = {*told} - {f"{SEARCH} {it} of at most {MOST_SEARCHES}" for it in numbers}
             self.assertTrue(all(it.startswith(EXCHANGING) for it in others), others)
             self.assertEqual(told.count(EXCHANGING), 1)
         told.clear()
         searches.proved(500)
-        self.assertEqual(told, ["search 1 of at most 1"])
+        self.assertEqual(told, [f"{SEARCH} 1 of at most 1"])
         self.assertIn(self.kept.read(folder.UNFINISHED).decode(), searches.texts.values())
         searches.clear()
         self.assertEqual([it.name for it in Path(self.kept.name).glob(f"{folder.CERTIFICATE}-*")], [])
@@ -216,7 +218,7 @@ class OverTheStandIn(InFolder):
             found[seconds] = (program.asked.count("whatif"), advice.cost, searches)
         every, least, _ = found[0, 0]
         self.assertGreater(8 * every, FIRST_SECONDS + 16)
-        self.assertIn(f"{EXCHANGING}, 4 sets priced", told)
+        self.assertIn(f"{EXCHANGING}, 4 done", told)
         for seconds, (count, cost, searches) in found.items():
             with self.subTest(seconds=seconds):
                 self.assertEqual(searches.is_cut, seconds in ((0, 8), (1, 8)))

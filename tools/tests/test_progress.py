@@ -8,23 +8,30 @@ from cophy_pg.steps import Steps
 
 
 class Progress(unittest.TestCase):
-    def told(self, steps: Steps, text: str) -> str:
-        """The line that is written over a second after the last one."""
-        steps.told -= 2
+    def told(self, steps: Steps, text: str, seconds: float = 31) -> str:
+        """The line that is written so many seconds after the last one, if there is one."""
+        steps.told -= seconds
         with mock.patch("cophy_pg.progress.say") as said:
             steps(text)
-        return str(said.call_args[0][0])
+        if said.called:
+            return str(said.call_args[0][0])
+        steps.told += seconds
+        return ""
 
-    def test_lines_begin_with_the_round_and_the_question(self) -> None:
-        steps, text = Steps(), "explaining statement 14 of 27 with the picks"
+    def test_lines_begin_with_the_round(self) -> None:
+        steps, text = Steps(), "asking the server about statement 14 of 27 with new indexes"
         self.assertEqual(self.told(steps, text), f"{text}, 0 s so far")
         steps.begin("round 2 of at most 4")
         self.assertEqual(self.told(steps, text), f"round 2 of at most 4, {text}, 0 s so far")
-        for number in (1, 2):
-            steps.ask()
-            self.assertEqual(self.told(steps, text), f"round 2 of at most 4, question {number}, {text}, 0 s so far")
         steps.begin("")
         self.assertEqual(self.told(steps, text), f"{text}, 0 s so far")
+
+    def test_a_step_has_a_line_and_then_one_every_half_minute(self) -> None:
+        steps, told = Steps(), list[str]()
+        for name, seconds in (("a", (2, 29, 31)), ("b", (0, 2, 2)), ("a", (2, 29, 31))):
+            with steps.step(name, "it begins"):
+                told += [f"{name}{it}" for it in seconds if self.told(steps, "it goes on", it)]
+        self.assertEqual(told, ["a2", "a31", "b2", "a31"])
 
 
 if __name__ == "__main__":

@@ -61,7 +61,7 @@ class Batches:
         stands: dict[str, str] = {}
         firsts: list[str] = []
         for chunk in _chunks(texts):
-            progress(f"folding statement {len(stands) + 1:,} of {len(texts):,}")
+            progress(f"putting like statements together, {len(stands) + 1:,} of {len(texts):,}")
             known: list[str] = next(_chunks({it: texts[it] for it in firsts}, KNOWN), [])
             found = self._of_chunk(known, chunk)
             stands |= {it: found[it] for it in chunk}

@@ -120,7 +120,7 @@ def each_plan(explainer: Explainer, listed: Sequence[Verdict], progress: Progres
     """The plans of some statements, by the numbers of their verdicts."""
     found: dict[int, Any] = {}
     for at, it in enumerate(listed, 1):
-        progress(f"plan {at} of {len(listed)}")
+        progress(f"comparing plans, {at} of {len(listed)}")
         if it.statement is None:
             continue
         try:

@@ -7,21 +7,21 @@ import sys
 import time
 
 
-PART = 0.1
-"""After a step has taken some time, the next line comes when it has taken so much more."""
+SOON, EVERY = 1.0, 30.0
+"""A step is told after so many seconds, and then so often how far it is."""
 
 
 class Progress:
-    """Tells what is being done once it has taken over a second, the longer it takes the more rarely."""
+    """Tells what is being done once it has taken some time, and how far it is."""
 
     def __init__(self) -> None:
-        self.begun = time.monotonic()
-        self.told = self.begun
+        self.begun = self.told = time.monotonic()
+        self.is_new = True
 
     def __call__(self, text: str) -> None:
         now = time.monotonic()
-        if now - self.told > max(1.0, PART * (now - self.begun)):
-            self.told = now
+        if now - self.told > (SOON if self.is_new else EVERY):
+            self.told, self.is_new = now, False
             say(f"{text}, {now - self.begun:.0f} s so far")
 
     def still(self, text: str) -> None:

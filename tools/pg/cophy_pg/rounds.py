@@ -73,7 +73,6 @@ class Rounds:
         found = [Verdict(at, it.input, self.workload.times(it)) for at, it in records if it.numbers]
         if known is not None:
             found = [Verdict(it.number, it.input, it.times, before=it.before, fault=it.fault) for it in known]
-        self.steps.ask()
         asked = len(found) + sum(it.before is None for it in found)
         with self.steps.step("verify", "asking the server's planner", asked):
             with reading(server):
@@ -89,7 +88,7 @@ class Rounds:
         exchange = self.searches.exchange(self.schema, self.rules)
         self.searches.begin(ADDITIONS)
         for number in range(0 if self.words.min_saving else ADDITIONS):
-            self.steps.begin(f"space left over, round {number + 1} of at most {ADDITIONS}")
+            self.steps.begin(f"filling space that is left, round {number + 1} of at most {ADDITIONS}")
             planning = Planning(self.schema, judged.verdicts, self.words.planning)
             beside = Beside(choice, judged.verdicts, exchange, self.workload.divisor, planning.longer)
             trades = []

@@ -10,7 +10,7 @@ from dataclasses import dataclass, field, replace
 from cophy_text import files
 from cophy_text.answers import Advice, Candidate, counted, explained, read_advice
 from cophy_text.rules import Rule, read_rule
-from cophy_text.shown import MOST_PAGES, space
+from cophy_text.shown import MOST_PAGES, grouped, space
 from cophy_pg import folder
 from cophy_pg.budget import FURTHER, MOST_TRIES, filled, room_in
 from cophy_pg.closing import NOT_PROVED
@@ -31,7 +31,7 @@ MOST_STARTS = 4
 """Of so many sets of picks is it tried what exchanges make of them."""
 MOST_SEARCHES = MOST_TRIES + len(FURTHER) + 1
 """So often is searched in a round: for what fills the budget, and for what exchanges made of that."""
-EXCHANGING, FIRST_SECONDS, LATER_SECONDS = "exchanging picks for others", 30.0, 8.0
+EXCHANGING, FIRST_SECONDS, LATER_SECONDS = "comparing with other sets of indexes", 30.0, 8.0
 """Picks are exchanged for so long in the first round, or for as long as was searched before, and so long in each later one."""
 CUT = "picks were exchanged for others for a limited time only, so others may cost less in the same space"
 POINTS, FIRST = 3, 3
@@ -188,7 +188,7 @@ class Searches:
         before = prices.calls
 
         def goes_on() -> bool:
-            self.progress.still(f"{EXCHANGING}, {counted(prices.calls - before, 'set')} priced")
+            self.progress.still(f"{EXCHANGING}, {grouped(prices.calls - before)} done")
             return self.clock() < end
 
         sizes = {number: stored_size(schema, [it]) for number, it in prices.candidates.items()}
@@ -202,7 +202,10 @@ class Searches:
 
     def _at(self, budget: int, rules: str = "") -> Advice:
         self.count += 1
-        self.progress(f"search {self.count}" + (f" of at most {self.most}" if self.count <= self.most else ""))
+        self.progress(
+            f"searching for indexes, search {self.count}"
+            + (f" of at most {self.most}" if self.count <= self.most else "")
+        )
         if rules:
             words = (str(budget), self.kept.path(folder.RULES), *self.nodes)
             text = self.ruled[budget, rules] = self.program.text("ruled", *words)

@@ -25,13 +25,13 @@ class Steps(Progress):
         self.shown: Any = None
         self.task: Any = None
         self.is_quiet = is_quiet
-        self.part, self.question = "", 0
+        self.part = ""
 
     def __call__(self, text: str) -> None:
         if self.shown is not None:
             self.shown.advance(self.task)
         elif not self.is_quiet:
-            super().__call__(self._within(f"question {self.question}, {text}" if self.question else text))
+            super().__call__(self._within(text))
 
     def still(self, text: str) -> None:
         if self.shown is not None:
@@ -41,11 +41,7 @@ class Steps(Progress):
 
     def begin(self, part: str) -> None:
         """Begins a part, whose name stands before all that is told until the next one begins."""
-        self.part, self.question = part, 0
-
-    def ask(self) -> None:
-        """Begins the next question of a part; each has a bar of its own, or else its number in the lines."""
-        self.question += 1
+        self.part = part
 
     def _within(self, text: str) -> str:
         return f"{self.part}, {text}" if self.part else text
@@ -70,8 +66,9 @@ class Steps(Progress):
 
     @contextmanager
     def step(self, name: str, text: str, count: int | None = None) -> Iterator[None]:
-        """One step; `count` says how often it is told that something is done. Steps of one name add up."""
+        """One step; `count` says how often it is told that something is done. Steps of one name add up, and are told as one."""
         begun = time.monotonic()
+        self.is_new |= name not in self.seconds
         if self.shown is not None:
             self.task = self.shown.add_task(self._within(text), total=count)
         else:

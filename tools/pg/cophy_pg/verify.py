@@ -99,10 +99,10 @@ def judge(
     """Explains statements with the picks, and without them where that isn't known, and fills their verdicts."""
     with reading(server, "READ COMMITTED"):
         explainer, functions = _explainer(server, found, is_trusted)
-        _explain_without(explainer, found, progress, " without the picks")
+        _explain_without(explainer, found, progress, " without new indexes")
         listed, made = make(server, schema, advice)
         for at, it in enumerate(found, 1):
-            progress(f"explaining statement {at} of {len(found)} with the picks")
+            progress(f"asking the server about statement {at} of {len(found)} with new indexes")
             _explain(explainer, it, made, True)
     return listed, functions
 
@@ -130,7 +130,7 @@ def _explain_without(explainer: Explainer, found: list[Verdict], progress: Progr
     """Explains those statements whose cost without the picks isn't known; how, is told."""
     unknown = [it for it in found if it.before is None]
     for at, it in enumerate(unknown, 1):
-        progress(f"explaining statement {at} of {len(unknown)}{how}")
+        progress(f"asking the server about statement {at} of {len(unknown)}{how}")
         _explain(explainer, it, {}, False)
 
 

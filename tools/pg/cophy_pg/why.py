@@ -48,7 +48,7 @@ def reasons(program: Program, advice: Advice, progress: Progress) -> tuple[Price
     none, all_ = program.whatif(()), program.whatif(numbers)
     found = []
     for at, pick in enumerate(advice.picks, 1):
-        progress(f"pricing without pick {at} of {len(advice.picks)}")
+        progress(f"reckoning what index {at} of {len(advice.picks)} saves")
         without = program.whatif(numbers - {pick.number})
         changes = {
             number: it.weight * (without.statements[number].cost - it.cost)
