@@ -231,14 +231,9 @@ def _plain(name: str) -> str:
 def last_of(document: dict[str, Any]) -> list[str]:
     """What the bound says, why space is left, and from where on more space helps little."""
     is_checked = "; certificate checked" * (proof_of(document) == "proved")
-    return [end_of(document) + is_checked, *filter(None, (unused_of(document), document.get("knee")))]
-
-
-def unused_of(document: dict[str, Any]) -> str:
-    """Why space is left; nothing where it is little, or that isn't known."""
-    text: str = document.get("unused") or ""
-    if text and not is_all_advised(document):
-        text = f"with all, those not recommended too, {text}"
-    if text and (hints := sum(it["stored_pages"] for it in made_hints(document))):
-        text += f"; hints take {space(hints)} of that"
-    return text
+    more = [document.get(it) for it in ("unused", "knee")]
+    if more[0] and not is_all_advised(document):
+        more[0] = f"with all, those not recommended too, {more[0]}"
+    if more[0] and (hints := sum(it["stored_pages"] for it in made_hints(document))):
+        more[0] += f"; hints take {space(hints)} of that"
+    return [end_of(document) + is_checked, *(it for it in more if it)]

@@ -19,7 +19,6 @@ from cophy_pg.closing import (
     rows_of,
     seen_by,
     time_falls,
-    unused_of,
 )
 from cophy_pg.folder import Folder
 from cophy_pg.guesses import is_judged, saved_of, seconds_of
@@ -104,15 +103,11 @@ def _best(document: dict[str, Any]) -> str:
     """What no indexes save more than, and how much of the budget stays free for that, where it is much."""
     ours, cost, asked = document["cost"], recommended_of(document)["cost"], document["asked_pages"]
     left = asked - pages_of(document)
-    if _is_best(document):
+    if cost == ours["bound"]:
         free = f"{space(left)} stay free: nothing fitting saves more"
         return free if left > asked * (1 - WELL_FILLED) else "No indexes within the budget save more"
     more = share(cost - ours["bound"], ours["before"])
     return f"Others within the budget save at most {'0.1 %' if more == '0.0 %' else more} of the cost more"
-
-
-def _is_best(document: dict[str, Any]) -> bool:
-    return bool(recommended_of(document)["cost"] == document["cost"]["bound"])
 
 
 def _is_well_judged(document: dict[str, Any]) -> bool:
@@ -151,8 +146,7 @@ def _notes(advised: list[Row], document: dict[str, Any]) -> list[str]:
     summed = sum(saved_of(it) for _, it in advised)
     if advised and abs(summed - whole) >= FEW:
         lines += [f"rows sum to {summed:.0f} %: each says what is lost without that one alone"]
-    unused = unused_of(document).partition("; ")[0]
-    return lines + [unused] * bool(unused and advised and not _is_best(document)) + _held_back(document)
+    return lines + _held_back(document)
 
 
 def _held_back(document: dict[str, Any]) -> list[str]:
