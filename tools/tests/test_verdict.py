@@ -20,7 +20,7 @@ class Verdict(OverDocument):
         first = [
             "Make these 5 indexes: 20.0 MB of the budget of 2,048.0 MB.",
             "They save about 83 % of the 1.6 s measured for queries, if time falls like the planner's cost.",
-            "2,028.0 MB stay free: nothing fitting saves more by our model (proved).",
+            "2,028.0 MB left: nothing fitting saves more by our model (proved).",
         ]
         self.assertEqual(lines[: lines.index("")], first)
         at = next(at for at, it in enumerate(lines) if it.startswith(" 1."))

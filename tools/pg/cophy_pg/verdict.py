@@ -104,7 +104,7 @@ def _best(document: dict[str, Any]) -> str:
     ours, cost, asked = document["cost"], recommended_of(document)["cost"], document["asked_pages"]
     left = asked - pages_of(document)
     if cost == ours["bound"]:
-        free = f"{space(left)} stay free: nothing fitting saves more"
+        free = f"{space(left)} left: nothing fitting saves more"
         return free if left > asked * (1 - WELL_FILLED) else "No indexes within the budget save more"
     more = share(cost - ours["bound"], ours["before"])
     return f"Others within the budget save at most {'0.1 %' if more == '0.0 %' else more} of the cost more"
