@@ -60,7 +60,7 @@ _cophy_pg() {
         ddl) options+=" --script --include --also --unadvised --rows-a-second --order --pages-a-second --json" ;;
         verify)
             options+=" --dsn --sql --log --since --min-calls --table --user --timeout --i-trust-the-statements"
-            options+=" --advice --rules --json --program"
+            options+=" --advice --rules --json --include --program"
             ;;
         why) options+=" --json --program" ;;
         curve) options+=" --budgets --even --steps --nodes --png --json --program" ;;
