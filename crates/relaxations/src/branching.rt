@@ -14,7 +14,8 @@ pub(crate) struct Rule {
     pub visits: usize,
 }
 
-/// One after the other until a search comes to its end, and on where a plan along its tree is left open.
+/// One after the other until a search comes to its end, and on where a plan along its tree is left open. The third is the first
+/// with as many visits as there can be.
 pub(crate) const RULES: [Rule; 5] = [
     Rule {
         is_of_both: true,

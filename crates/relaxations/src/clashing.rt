@@ -37,24 +37,32 @@ pub(crate) fn groups_of(shapes: &[IndexShape]) -> [u8; 256] {
     groups
 }
 
-/// How many of each group are in, and how many of these are too many.
+/// How many of each group are in, how many of all, and how many of these are too many.
 #[derive(Clone, Copy)]
 pub(crate) struct Members {
     counts: [u16; 256],
+    all: usize,
     pub clashes: usize,
 }
 
 impl Members {
     pub(crate) const BLANK: Members = Members {
         counts: [0; 256],
+        all: 0,
         clashes: 0,
     };
+
+    /// Whether none of any group is in.
+    pub(crate) fn is_empty(&self) -> bool {
+        self.all == 0
+    }
 
     /// Counts one of a group that comes in.
     pub(crate) fn enter(&mut self, group: u8) {
         if group != 0 {
             let count = self.counts[group as usize];
             self.counts[group as usize] = count.saturating_add(1);
+            self.all = self.all.saturating_add(1);
             if count > 0 {
                 self.clashes = self.clashes.saturating_add(1);
             }
@@ -66,6 +74,7 @@ impl Members {
         if group != 0 {
             let count = self.counts[group as usize].saturating_sub(1);
             self.counts[group as usize] = count;
+            self.all = self.all.saturating_sub(1);
             if count > 0 {
                 self.clashes = self.clashes.saturating_sub(1);
             }

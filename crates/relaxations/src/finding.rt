@@ -46,8 +46,8 @@ pub(crate) struct Finder {
     own_rents: Vec<f64>,
     shares: [f64; 256],
     root_bound: f64,
-    /// By how many of the rules there were searches, the last of which is the one whose tree stands.
-    pub tried: usize,
+    /// The number of the rule of the search whose tree stands, from 1, or 0 before there is one.
+    pub rule: usize,
 }
 
 impl Finder {
@@ -68,7 +68,7 @@ impl Finder {
             },
             shares: [0.0; 256],
             root_bound: 0.0,
-            tried: 0,
+            rule: 0,
         })
     }
 
@@ -208,7 +208,7 @@ impl Finder {
         let rises = self.losses.best_rises(&self.view, &self.lagrangian, number);
         let inside = shares.inside(group, rises.inside.max(0.0), rises.outside);
         let missing = (self.target() - self.lagrangian.value).max(1.0);
-        let rule = at(&RULES, self.tried.saturating_sub(1), RULES[0]);
+        let rule = at(&RULES, self.rule.saturating_sub(1), RULES[0]);
         rule.pages(inside, rises.outside, missing, self.lagrangian.page)
     }
 
@@ -293,7 +293,7 @@ impl Finder {
         }
         self.tree.begin(root);
         self.root_bound = f64::NEG_INFINITY;
-        self.tried = 0;
+        self.rule = 0;
     }
 
     /// Rounds the relaxation of a node that was solved last, or takes what is in there where nothing is open; whether that is

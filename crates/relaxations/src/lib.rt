@@ -23,6 +23,7 @@ mod path;
 mod planner;
 mod proposals;
 mod recalling;
+mod rents;
 mod retracing;
 mod rounding;
 mod splitting;

@@ -111,6 +111,9 @@ impl Path {
     /// What open candidates that clash take off a value, where each costs so much.
     pub(crate) fn lost(&self, terms: &Each) -> i128 {
         let mut lost = 0i128;
+        if self.members.is_empty() {
+            return lost;
+        }
         for a in 0..256 {
             if self.is_clash(a) && self.is_open(a) {
                 lost = lost.wrapping_sub(terms[a].min(0));

@@ -85,7 +85,7 @@ pub(crate) struct Planner {
     pub hint: usize,
     pub asked: u64,
     pub has_open: bool,
-    /// The least value of a leaf that is left open.
+    /// The least value of a leaf that is left open, in parts of 65536.
     pub least: i128,
     pub covers: Vec<u64>,
     pub cost: i128,
@@ -95,8 +95,6 @@ pub(crate) struct Planner {
     pub lifting: Lifting,
     is_heavy: bool,
     values: [i128; MOST_SETS],
-    /// The values where what clashes is left out.
-    promised: [i128; MOST_SETS],
     most_nodes: usize,
 }
 
@@ -127,7 +125,6 @@ impl Planner {
             lifting: Lifting::new(alloc, matrix)?,
             is_heavy: false,
             values: [0; MOST_SETS],
-            promised: [0; MOST_SETS],
             most_nodes: nodes,
         })
     }
@@ -208,10 +205,8 @@ impl Planner {
 
     /// Goes back to so many steps.
     pub(crate) fn go_back(&mut self, task: &Task<'_>, depth: usize) {
-        for (set, ledger) in self.ledgers.iter_mut().enumerate() {
-            if set < self.count {
-                ledger.go_back(&self.path, depth);
-            }
+        for set in 0..self.count.min(self.ledgers.len()) {
+            self.ledgers[set].go_back(&self.path, depth);
         }
         self.path.go_back(task.matrix, depth);
     }
@@ -224,8 +219,6 @@ impl Planner {
         self.asked = self.asked.wrapping_add(1);
         let value = self.ledgers[set].value(task.matrix, &self.path);
         put(&mut self.values, set, value);
-        let lost = self.path.lost(&self.ledgers[set].terms);
-        put(&mut self.promised, set, value.wrapping_add(lost));
         value
     }
 
@@ -342,20 +335,19 @@ impl Planner {
         is_any
     }
 
-    /// The set that promises most and isn't among some.
+    /// The set that promises most where what clashes is left out, and isn't among some.
     fn next_best(&self, tried: &[usize]) -> Best {
         let mut best = Best {
             set: usize::MAX,
             value: i128::MIN,
         };
         let mut most = i128::MIN;
-        for set in 0..self.count.min(MOST_SETS) {
-            if self.promised[set] > most && !tried.contains(&set) {
-                most = self.promised[set];
-                best = Best {
-                    set,
-                    value: self.values[set],
-                };
+        for set in 0..self.count.min(self.ledgers.len()) {
+            let value = at(&self.values, set, 0);
+            let promised = value.wrapping_add(self.path.lost(&self.ledgers[set].terms));
+            if promised > most && !tried.contains(&set) {
+                most = promised;
+                best = Best { set, value };
             }
         }
         best

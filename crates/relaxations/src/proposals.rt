@@ -1,6 +1,4 @@
 //! What is proposed to a search: a configuration, sets of multipliers, and a plan of its tree.
-ghost use Rattle.std.specs.Prelude.{◌≡◌, ◌≤◌, All, length};
-ghost use Rattle.adv_base.specs.declared.limits.TheConstants.{MOST_RENT};
 ghost use Rattle.bip_model.specs.Views.{AreMultipliers};
 
 use crate::branching::RULES;
@@ -9,19 +7,20 @@ use crate::configuration::Chosen;
 use crate::entering::matrix_of;
 use crate::finding::Finder;
 use crate::planner::{MOST_SETS, OVERFULL, PlanNode, Planner, Task};
+use crate::rents::{clear, write_rents};
 use crate::splitting::Splitter;
 use crate::tree::MOST_NODES;
-use adv_base::limits::{MOST_PAGE_PRICE, MOST_RENT};
+use adv_base::limits::MOST_PAGE_PRICE;
 use adv_base::{Config, IndexShape, NoMemory};
 use bip_model::{Fix, Multipliers, Programme, State};
 use interior_point::{Matrix, at};
 use std::alloc::Global;
 
-/// Sets are asked so often at most for each node of the last tree before there is a search, and so often in all.
+/// Before there is a search, sets may be asked so often for each node of the last tree.
 const ASKED_A_NODE: u64 = 60;
-
+/// But so often in any case, however small that tree is.
 const LEAST_ASKED: u64 = 20_000;
-
+/// And not more often than this, however large it is.
 const MOST_ASKED: u64 = 80_000;
 /// The most of a cost that is looked at, 2^100.
 pub(crate) const MOST_COST: u128 = 1_267_650_600_228_229_401_496_703_205_376;
@@ -158,7 +157,7 @@ impl Proposals {
         let has_groups = self.has_groups();
         for number in first..RULES.len() {
             self.begin(known.as_ref());
-            self.finder.tried = number + 1;
+            self.finder.rule = number + 1;
             let visits = if has_groups {
                 RULES[number].visits
             } else {
@@ -226,19 +225,19 @@ impl Proposals {
     /// While a leaf is left open, plans along the trees of searches by further rules; where each leaves one open, along that
     /// tree again whose least open leaf was worth most.
     fn plan_by_others(&mut self, cost: i128) {
-        let mut best = self.finder.tried;
+        let mut best = self.finder.rule;
         let mut least = self.planner.least;
         for _turn in 0..RULES.len() {
             if !self.planner.has_open || !self.may_differ() {
                 break;
             }
-            self.plan_by(self.finder.tried, cost);
+            self.plan_by(self.finder.rule, cost);
             if self.planner.least > least {
-                best = self.finder.tried;
+                best = self.finder.rule;
                 least = self.planner.least;
             }
         }
-        if best != self.finder.tried {
+        if best != self.finder.rule {
             self.plan_by(best.saturating_sub(1), cost);
         }
     }
@@ -264,8 +263,8 @@ impl Proposals {
 
     /// Whether a search by another rule may have another tree, for which there are nodes.
     fn may_differ(&self) -> bool {
-        self.finder.tried < RULES.len()
-            && (self.finder.tried == 0 || self.has_groups())
+        self.finder.rule < RULES.len()
+            && (self.finder.rule == 0 || self.has_groups())
             && self.finder.tree.nodes.len() <= self.limits.nodes
     }
 
@@ -364,39 +363,5 @@ fn step_of(node: &PlanNode, numbers: &[u8; MOST_SETS]) -> Step {
         candidate: node.candidate,
         set: at(numbers, node.set as usize, 0),
         outside: 0,
-    }
-}
-
-/// Puts a rent at a place, where there is one.
-fn put_rent(rents: &mut [u64], place: usize, rent: u64)
-    requires most { All (λ rent. rent ≤ MOST_RENT) rents.old }
-    ensures one_each { length rents.new ≡ length rents.old }
-    ensures most { All (λ rent. rent ≤ MOST_RENT) rents.new }
-{
-    if place < rents.len() {
-        rents[place] = rent.min(MOST_RENT);
-    }
-}
-
-/// Writes zeros.
-fn clear(rents: &mut [u64])
-    requires most { All (λ rent. rent ≤ MOST_RENT) rents.old }
-    ensures one_each { length rents.new ≡ length rents.old }
-    ensures most { All (λ rent. rent ≤ MOST_RENT) rents.new }
-{
-    for place in 0..rents.len() {
-        put_rent(rents, place, 0);
-    }
-}
-
-/// Writes the rents of a matrix's links.
-fn write_rents(matrix: &Matrix, rents: &[i64], into: &mut [u64])
-    requires most { All (λ rent. rent ≤ MOST_RENT) into.old }
-    ensures one_each { length into.new ≡ length into.old }
-    ensures most { All (λ rent. rent ≤ MOST_RENT) into.new }
-{
-    for number in 0..matrix.links.len().min(rents.len()) {
-        let rent = rents[number].max(0) as u64;
-        put_rent(into, matrix.links[number].rent, rent);
     }
 }

@@ -6,7 +6,7 @@ use interior_point::{at, put};
 /// The most nodes of a subtree whose fixings are thinned.
 const MOST_THINNED: usize = 200;
 /// The same where relaxations are rounded.
-const MOST_ROUNDED: usize = 60;
+const MOST_ROUNDED: usize = 30;
 /// The most spans of fixings that are tried.
 const MOST_SPANS: usize = 1024;
 /// The same where relaxations are rounded.
