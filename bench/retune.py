@@ -1,14 +1,19 @@
 #!/usr/bin/env -S python3 -IB
 """`cophy retune` on workloads of the generator, of 100 to 1000 statements: what one more edit takes of the processor's
 time, by its kind, beside making the programme from scratch; and an advice that follows one edit behind another advice,
-beside one from scratch on the same statements. It prints Markdown."""
+beside one from scratch on the same statements. It prints Markdown. With --instructions valgrind counts those in the place
+of time, which nothing else that the machine does changes: then each is run once, and as many workloads at once as there
+are processors."""
 import os
 import re
+import shutil
 import sys
+from concurrent.futures import ThreadPoolExecutor
+from functools import partial
 from tempfile import TemporaryDirectory
 
 sys.path.insert(0, os.path.dirname(os.path.realpath(__file__)))
-from measure import Run, arguments, need_answer, need_program, run_once  # noqa: E402
+from measure import Run, arguments, need_answer, need_program, run_counted, run_once  # noqa: E402
 from workloads import Workload, budget_of, candidate_pages, put  # noqa: E402
 
 SEEDS = (2, 4, 6)
@@ -59,19 +64,22 @@ def edits(statements: list[tuple[str, str]]) -> dict[str, str]:
     }
 
 
-def runs_of(program: str, workload: Workload, folder: str, repeat: int) -> dict[str, Run]:
-    """The run of `candidates`, and that of each of the edits: the lightest of those made in turn."""
+def runs_of(program: str, workload: Workload, folder: str, repeat: int, counts: bool) -> dict[str, Run]:
+    """The run of `candidates`, and that of each of the edits: the lightest of those made in turn, or the one whose
+    instructions are counted."""
+    run = run_counted if counts else run_once
     files = put(workload, folder)
     budget = budget_of(SHARE, candidate_pages(program, workload, folder))
     commands = {"candidates": [program, "candidates", *files]}
     with open(files[1]) as file:
         statements = re.findall(r"^-- weight (\d+)\n(.*)$", file.read(), re.M)
     for name, text in edits(statements).items():
-        path = os.path.join(folder, f"{name}.edits")
+        path = os.path.join(folder, f"{workload}.{name}.edits")
         with open(path, "w") as file:
             file.write(text)
         commands[name] = [program, "retune", *files, path, str(budget)]
-    rounds: list[dict[str, Run]] = [{name: run_once(words) for name, words in commands.items()} for _ in range(repeat)]
+    times = 1 if counts else repeat
+    rounds: list[dict[str, Run]] = [{name: run(words) for name, words in commands.items()} for _ in range(times)]
     runs = {name: min((it[name] for it in rounds), key=lambda run: run.processor) for name in commands}
     for name, run in runs.items():
         need_answer(run, f"{name} of {workload}")
@@ -113,18 +121,28 @@ def print_line(cells: tuple[object, ...]) -> None:
     print("|", " | ".join(map(str, cells)), "|", flush=True)
 
 
+def heads(counts: bool) -> list[str]:
+    """What the columns are: those of time are millions and thousands of instructions where these are counted."""
+    units = {" ms": " million", " us": " thousand"} if counts else {}
+    return [f"{it.removesuffix(it[-3:])}{units.get(it[-3:], it[-3:])}" for it in HEADS]
+
+
 def main() -> None:
     parser = arguments("edits of workloads of 100 to 1000 statements")
     parser.add_argument("--quick", action="store_true", help="100 and 300 statements alone")
+    parser.add_argument("--instructions", action="store_true", help="count instructions by valgrind")
     options = parser.parse_args()
     need_program(options.program)
-    print_line(HEADS)
+    if options.instructions and not shutil.which("valgrind"):
+        sys.exit("there is no valgrind on the path")
+    print_line(tuple(heads(options.instructions)))
     print("|---" * len(HEADS) + "|")
-    with TemporaryDirectory() as folder:
-        for seed in SEEDS:
-            for count in STATEMENTS[:2] if options.quick else STATEMENTS:
-                workload = Workload(seed, TABLES, count)
-                print_line(row_of(workload, runs_of(options.program, workload, folder, options.repeat)))
+    counts = STATEMENTS[:2] if options.quick else STATEMENTS
+    workloads = [Workload(seed, TABLES, count) for seed in SEEDS for count in counts]
+    with TemporaryDirectory() as folder, ThreadPoolExecutor(os.cpu_count() if options.instructions else 1) as pool:
+        runs = partial(runs_of, options.program, folder=folder, repeat=options.repeat, counts=options.instructions)
+        for workload, found in zip(workloads, pool.map(runs, workloads)):
+            print_line(row_of(workload, found))
 
 
 main()
