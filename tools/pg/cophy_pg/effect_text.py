@@ -56,12 +56,8 @@ def _by_planner(found: dict[str, Any]) -> list[str]:
         return []
     part = f"{cost['statements']} of {cost['of']}" if cost["statements"] < cost["of"] else "the"
     if time := cost["time"]:
-        saved, said, what, shown = (
-            time["saved"],
-            time["advised"],
-            "would take {} of the time measured for queries",
-            about,
-        )
+        saved, said, shown = time["saved"], time["advised"], about
+        what = "would take {} of the time measured for queries"
     else:
         saved = 100 * (cost["before"] - cost["now"]) / cost["before"] if cost["before"] else 0.0
         said, what, shown = 100 - cost["advised"], "cost {}", percent
