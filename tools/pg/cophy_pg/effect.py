@@ -16,7 +16,7 @@ from cophy_pg.folder import Folder
 from cophy_pg.guesses import seconds_of
 from cophy_pg.included import searched_columns
 from cophy_pg.inputs import NoInput
-from cophy_pg.measured import Measured, a_call, given_of, measured_since
+from cophy_pg.measured import Measured, a_call, called_since, given_of, is_slower, told_of, writes_of
 from cophy_pg.outcomes import Verdict
 from cophy_pg.overview import named
 from cophy_pg.paths import Paths, read_paths
@@ -143,7 +143,8 @@ def _counted(server: Server, given: Given, is_trusted: bool) -> dict[str, Any] |
         begins = {"indexes": folder.EFFECT} if given.is_all_there() and kept.has(folder.EFFECT) else {}
         for begin, name in (begins | {"advice": folder.SNAPSHOT}).items():
             then = read_snapshot(kept.path(name))
-            if found := measured_since(now, listed, then, given.document, given.paths, there):
+            found = called_since(now, listed, then, given.document, given.paths, there)
+            if told_of(found):
                 break
     except NoInput as fault:
         say(f"what was counted is left out: {fault}")
@@ -166,21 +167,28 @@ def _keep(kept: Folder, now: Snapshot, is_all_there: bool) -> None:
 
 
 def _times(begin: str, found: list[Measured]) -> dict[str, Any]:
-    """What was counted since a begin, of each statement and of all."""
-    before, after = a_call(found)
+    """What was counted since a begin: of each statement that is told, of these together, of writes, and of all."""
+    told = told_of(found)
     statements = [
         {
             "numbers": it.numbers,
             "sql": short(it.sql),
             "helped": it.is_helped,
+            "slower": is_slower(it),
             "calls": it.calls,
             "before": round(it.before, 6),
             "since": round(it.since, 6),
         }
-        for it in found
+        for it in told
     ]
-    times = {"before": round(before, 6), "since": round(after, 6)}
-    return {"begin": begin, "calls": sum(it.calls for it in found), **times, "statements": statements}
+    others = {"writes": _together(writes_of(found)), "all": _together(found)}
+    return {"begin": begin, **_together(told), **others, "statements": statements}
+
+
+def _together(found: list[Measured]) -> dict[str, Any]:
+    """How often some statements were called since, and what a call took before and since."""
+    before, after = a_call(found)
+    return {"calls": sum(it.calls for it in found), "before": round(before, 6), "since": round(after, 6)}
 
 
 def described(given: Given) -> dict[str, Any]:
