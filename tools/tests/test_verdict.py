@@ -56,7 +56,8 @@ class Verdict(OverDocument):
             ((40.0, 20.0, 16.0, 2.0, 2.9), 23, []),
             ((40.0, 20.0, 16.0, 3.0, 2.9), 61, []),
             ((40.0, 20.0, 22.0, 0.9, 0.9), 61, []),
-            ((30.0, 20.0, 6.0, 5.0, 5.0), 61, ["rows sum to 66 %: each says what is lost without that one alone"]),
+            ((30.0, 20.0, 6.0, 5.0, 5.0), 61, ["rows sum to 66 %, not 83: others stand in for one that is missing"]),
+            ((60.0, 20.0, 6.0, 5.0, 5.0), 61, ["rows sum to 96 %, not 83: some save only together"]),
         ):
             for it, planned in zip(self.document["picks"], shares, strict=True):
                 it["saves"] |= {"planned": planned}
@@ -64,6 +65,19 @@ class Verdict(OverDocument):
             lines = self.verdict()
             found = [it for it in lines if " takes " in it or it.startswith("rows")]
             self.assertEqual(found, wanted, shares)
+
+    def test_which_values_cant_be_written_any_more_is_told(self) -> None:
+        self.five()
+        picks = self.document["picks"]
+        picks[0]["caveat"] = "an INSERT would fail"
+        for at, names in ((0, ["z"]), (1, ["a"]), (3, ["b", "a"])):
+            picks[at]["long"] = names
+        wanted = "INSERTs of over 2,704 bytes in t1.a, t3.a .. will fail (index 1, 3)"
+        self.assertIn(wanted, self.verdict())
+        picks[3]["long"] = []
+        self.assertIn("INSERTs of over 2,704 bytes in t1.a will fail (index 1)", self.verdict())
+        picks[1]["long"] = []
+        self.assertFalse([it for it in self.verdict() if "bytes" in it])
 
     def test_indexes_that_save_little_share_a_row(self) -> None:
         self.five()

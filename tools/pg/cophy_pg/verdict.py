@@ -5,7 +5,8 @@ from typing import Any
 
 from cophy_text import files
 from cophy_text.answers import counted
-from cophy_text.shown import about, percent, share, space
+from cophy_text.keys import ENTRY
+from cophy_text.shown import about, grouped, percent, share, space
 from cophy_pg import folder
 from cophy_pg.closing import (
     commands_of,
@@ -38,6 +39,8 @@ MUCH_SPACE, FEW = 0.25, 3
 told; so is that rows don't sum to what all save but for so many percent."""
 MUCH_MORE = 10
 """Where others could save so many percent of the cost more, the index that most of that is of is told."""
+MOST_LONG = 2
+"""So many columns are named whose values may be too long."""
 Row = tuple[int, dict[str, Any]]
 WELL_JUDGED = 0.9
 """Where the statements that were priced have this part of the measured time, that isn't told."""
@@ -136,7 +139,8 @@ def _apart(advised: list[Row]) -> tuple[list[Row], list[Row]]:
 
 
 def _notes(advised: list[Row], document: dict[str, Any]) -> list[str]:
-    """The index that takes much of the space for little, and that rows don't sum to what all save, where that is so."""
+    """The index that takes much of the space for little, that rows don't sum to what all save, and which values can't be
+    written any more, where that is so."""
     whole, size, lines = _percent_saved(document), pages_of(document), list[str]()
     little = min(FEW, whole / 10)
     much = [it for it in _apart(advised)[0] if saved_of(it[1]) < little and it[1]["stored_pages"] > MUCH_SPACE * size]
@@ -145,7 +149,13 @@ def _notes(advised: list[Row], document: dict[str, Any]) -> list[str]:
         lines += [f"{what}: psql -v without={at} leaves it out"]
     summed = sum(saved_of(it) for _, it in advised)
     if advised and abs(summed - whole) >= FEW:
-        lines += [f"rows sum to {summed:.0f} %: each says what is lost without that one alone"]
+        why = "others stand in for one that is missing" if summed < whole else "some save only together"
+        lines += [f"rows sum to {summed:.0f} %, not {whole:.0f}: {why}"]
+    long = [str(at) for at, it in advised if it.get("long")]
+    columns = sorted({f"{it['table']}.{name}" for _, it in advised for name in it.get("long", [])})
+    if long:
+        where = f"{', '.join(columns[:MOST_LONG])}{' ..' * (len(columns) > MOST_LONG)}"
+        lines += [f"INSERTs of over {grouped(ENTRY)} bytes in {where} will fail (index {', '.join(long)})"]
     return lines + _held_back(document)
 
 
