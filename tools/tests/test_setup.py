@@ -4,12 +4,15 @@ from __future__ import annotations
 import base64
 import hashlib
 import hmac
+import os
 import re
 import shlex
+import socket
 import stat
 import subprocess
 import unittest
 from pathlib import Path
+from unittest import mock
 
 from fixtures import ADVISOR, NO_HYPOPG, ROOT, STAND_IN, InFolder, called
 from private_server import PrivateServer, program
@@ -146,6 +149,48 @@ class Clusters(unittest.TestCase):
         self.assertEqual(clusters(listed, "5432"), ["    the cluster 15/main runs: export PGPORT=5433"])
 
 
+class Ports(InFolder):
+    """The port is that of the only server that listens on a socket."""
+
+    def listening(self, port: int) -> socket.socket:
+        ours = socket.socket(socket.AF_UNIX)
+        self.addCleanup(ours.close)
+        ours.bind(str(self.folder / f".s.PGSQL.{port}"))
+        ours.listen()
+        return ours
+
+    def port(self, **environment: str) -> tuple[str, str]:
+        """The port that is taken, and what is said of it."""
+        from cophy_pg.local import port_of
+
+        with mock.patch.dict("os.environ", environment), mock.patch("cophy_pg.local.say") as said:
+            if not environment:
+                os.environ.pop("PGPORT", None)
+            return port_of(str(self.folder)), said.call_args[0][0] if said.called else ""
+
+    def test_it_is_that_of_the_only_server_unless_it_is_given(self) -> None:
+        self.assertEqual(self.port(), ("5432", ""))
+        (self.folder / ".s.PGSQL.5433.lock").touch()
+        first = self.listening(5433)
+        told = "the one server that runs here has port 5433 (PGPORT takes another)"
+        self.assertEqual(self.port(), ("5433", told))
+        self.assertEqual(self.port(PGPORT="5440"), ("5440", ""))
+        second = self.listening(5434)
+        self.assertEqual(self.port(), ("5432", ""))
+        first.close()
+        self.assertEqual(self.port()[0], "5434")
+        second.close()
+        self.assertEqual(self.port(), ("5432", ""))
+
+    def test_of_another_machine_nothing_is_looked_for(self) -> None:
+        from cophy_pg.local import port_of
+
+        with mock.patch("cophy_pg.local.ports", return_value=["5433"]), mock.patch("cophy_pg.local.say"):
+            with mock.patch.dict("os.environ"):
+                os.environ.pop("PGPORT", None)
+                self.assertEqual([port_of(it) for it in ("db.example", "::1")], ["5432", "5433"])
+
+
 class Password(InFolder):
     def test_the_server_gets_what_cant_be_turned_back(self) -> None:
         from cophy_pg.setup import verifier_of
@@ -159,8 +204,6 @@ class Password(InFolder):
         self.assertEqual(server, hmac.digest(salted, b"Server Key", "sha256"))
 
     def test_it_stands_before_the_other_lines_in_the_place_of_the_last_one(self) -> None:
-        from unittest import mock
-
         from cophy_pg.setup import _keep
 
         name = Path(self.folder) / "pass"

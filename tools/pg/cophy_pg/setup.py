@@ -21,12 +21,12 @@ from cophy_pg.no_connection import failed
 from cophy_pg.picks import home_of
 from cophy_pg.export import HIDDEN
 from cophy_pg.inputs import ADVISOR, NoInput, from_server, tell_short
+from cophy_pg.local import LOCAL, PORT, port_of
 from cophy_pg.progress import say
 from cophy_pg.server import OWN, UNKNOWN, Server, ServerFault, connected, reading, reason
 
 SCRIPT = Path(__file__).resolve().parent / "advisor_role.sql"
 ROUNDS = 4096
-LOCAL = ("localhost", "127.0.0.1", "::1")
 HYPOPG = (
     "the extension hypopg is missing: install it (apt-get install postgresql-NN-hypopg, NN being the server's version)"
 )
@@ -58,7 +58,8 @@ def setup(words: argparse.Namespace) -> int:
     database = words.database or os.environ.get("PGDATABASE")
     if not database:
         raise NoInput("name the database: cophy-pg setup DATABASE")
-    host, port = os.environ.get("PGHOST") or "localhost", os.environ.get("PGPORT") or "5432"
+    host = os.environ.get("PGHOST") or "localhost"
+    port = port_of(host)
     superuser = shlex.split(words.psql) if words.psql else _superuser(host, port)
     kept = {it: value for it, value in os.environ.items() if not it.startswith("PG") or words.psql and it != "PGUSER"}
     _run([*superuser, "-d", database], kept, files.read(str(SCRIPT)).decode())
@@ -80,7 +81,7 @@ def _run(superuser: list[str], environment: dict[str, str], text: str) -> None:
     except OSError as fault:
         raise NoInput(f"{given[0]}: {fault.strerror}") from None
     if ran.returncode == 2 and reason(Exception(ran.stderr)) != UNKNOWN:
-        host, port = environment.get("PGHOST", ""), os.environ.get("PGPORT") or "5432"
+        host, port = environment.get("PGHOST", ""), os.environ.get("PGPORT") or PORT
         raise NoInput(failed(superuser, environment, port, ran.stderr, host in ("", *LOCAL) or host.startswith("/")))
     sys.stderr.write(ran.stderr)
     if ran.returncode:
@@ -135,7 +136,7 @@ def _tell(server: Server, database: str, host: str, port: str) -> int:
     tell_short(server)
     many = f"{counted(count, 'statement')} {'is' if count == 1 else 'are'} counted"
     print(f"{ADVISOR} may read {database!a}, where hypopg is in schema {home!a} and {many}. Next:")
-    names = {"PGHOST": host, "PGPORT": port if port != "5432" else "", "PGDATABASE": database, "PGUSER": ADVISOR}
+    names = {"PGHOST": host, "PGPORT": port if port != PORT else "", "PGDATABASE": database, "PGUSER": ADVISOR}
     print("export " + " ".join(f"{name}={shlex.quote(it)}" for name, it in names.items() if it))
     print(f"{shlex.quote(_called())} advise --budget {fifth_of(int(server.value(_SIZE)))}")
     return 0
