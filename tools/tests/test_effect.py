@@ -207,7 +207,7 @@ class Text(unittest.TestCase):
             | {"since": 40.0 * at}
             for at in range(1, statements + 1)
         ]
-        every = {"calls": 9, "before": 3.14, "since": 0.4}
+        every: dict[str, Any] = {"calls": 9, "before": 3.14, "since": 0.4}
         counted = {"begin": "indexes", **every, "writes": every | {"calls": 0}, "all": every, "statements": listed}
         cost = {"statements": 9, "of": 9, "before": 200.0, "now": 20.0, "advised": 9.0, "time": None}
         document = {"version": 1, "database": "d", "made": "", "source": "pg_stat_statements", "indexes": indexes}
