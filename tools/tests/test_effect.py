@@ -2,11 +2,15 @@
 from __future__ import annotations
 
 import json
+import os
+import shutil
+import subprocess
 import unittest
 from typing import Any
 from unittest import mock
 
-from fixtures import NO_HYPOPG, NO_PARSER, ROOT, STAND_IN, OverOwn
+from fixtures import NO_HYPOPG, NO_PARSER, ROOT, STAND_IN, TOOL, OverOwn
+from patience import LONG
 from schema_check import faults
 
 if not NO_PARSER:
@@ -116,7 +120,7 @@ class Asked(unittest.TestCase):
 
     def shown(self, *rows: tuple[str, bool]) -> tuple[list[int], bool]:
         given = self.given(*rows)
-        with mock.patch("cophy_pg.effect.commands_of", return_value=["psql"]):
+        with mock.patch("cophy_pg.effect.made_by", return_value=["psql"]):
             document = described(given)
         self.assertEqual(document["make"], [] if given.is_all_there() else ["psql"])
         return [it["place"] for it in document["indexes"]], given.is_all_there()
@@ -386,6 +390,19 @@ class Effect(OverOwn):
         )
         self.assertEqual(self.states(status=3), ["name taken", "INVALID", "there"])
 
+    def test_the_last_folder_here_says_where_the_server_is(self) -> None:
+        self.advise()
+        for name in ("cophy-advice-20260101-000000", "cophy-advice-20260102-000000", "cophy-advice-20260103-000000"):
+            (self.folder / name).mkdir(0o700)
+        shutil.copytree(self.found, self.folder / "cophy-advice-20260102-000000", dirs_exist_ok=True)
+        given = {it: value for it, value in os.environ.items() if not it.startswith("PG")} | {"HOME": "/nowhere"}
+        words = [str(TOOL), "effect", "--json"]
+        ran = subprocess.run(
+            words, cwd=self.folder, env=given, capture_output=True, text=True, check=False, timeout=LONG
+        )
+        self.assertEqual(ran.returncode, 3, ran.stderr)
+        self.assertEqual(json.loads(ran.stdout)["database"], "seen")
+
     def test_statements_of_a_file_have_no_times(self) -> None:
         (self.folder / "given.sql").write_text("SELECT a FROM t WHERE b = 5;\n")
         self.advise("--sql", *self.in_folder("given.sql"))
@@ -404,7 +421,7 @@ class Effect(OverOwn):
         for name, more, said in table:
             with self.subTest(said=said):
                 self.assertIn(said, self.call("effect", name, status=1, **more).stderr)
-        self.call("effect", status=2)
+        self.assertIn("no folder of advise is here", self.call("effect", status=1).stderr)
         self.call("effect", self.found, "--i-trust-the-statements", status=3, PGUSER="cophy")
 
 

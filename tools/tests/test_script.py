@@ -139,7 +139,7 @@ class Script(OverOwn):
         self.server.psql('GRANT CREATE ON SCHEMA public TO boss; GRANT boss TO "Me"', "making")
         back = 'ALTER TABLE plain OWNER TO cophy; DROP OWNED BY boss; DROP ROLE boss, "Me"'
         self.addCleanup(self.server.psql, back, "making")
-        told = '\ndone; to leave the owner, if joined for this alone: REVOKE boss FROM "Me"\n'
+        told = '\ndone; joined the owner for this alone? REVOKE boss FROM "Me"\n'
         self.assertIn(told, self.run_script(text, PGUSER="Me"))
         self.assertIn(told, self.run_script(text, "-v", "undo=1", PGUSER="Me"))
 

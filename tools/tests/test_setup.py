@@ -1,9 +1,11 @@
 """`cophy-pg setup`: what a superuser's script makes and says, on a server that counts statements and on one that doesn't."""
 from __future__ import annotations
 
+import argparse
 import base64
 import hashlib
 import hmac
+import json
 import os
 import re
 import shlex
@@ -44,18 +46,24 @@ class Setup(InFolder):
         self.server.psql("CREATE TABLE t AS SELECT generate_series(1, 300000) AS a", "odd")
         ran = self.call(self.server, "odd")
         self.assertRegex(ran.stderr, r"\Acophy-pg: statements have been counted for .* alone: a working day.*\n\Z")
-        first, names, command = ran.stdout.splitlines()
-        self.assertRegex(
-            first, r"\Acophy_advisor may read 'odd', where hypopg is in schema \S+ and 1 statement is counted\. Next:\Z"
-        )
-        self.assertEqual(names, f"export PGHOST={self.server.folder} PGDATABASE=odd PGUSER=cophy_advisor")
-        self.assertTrue(command.endswith("cophy-pg advise --budget 2MB"), command)
+        first, command = ran.stdout.splitlines()
+        self.assertEqual(first, "'odd' can be advised on, 1 statement is counted. Next:")
+        begin, _, end = command.partition(" PGUSER=cophy_advisor ")
+        self.assertEqual(begin, f"PGHOST={self.server.folder}")
+        self.assertTrue(end.endswith("cophy-pg advise odd"), command)
+        more = {"PGUSER": "", "COPHY_PROGRAM": str(STAND_IN)}
+        found = str(self.folder / "found")
+        # The command finds the role, and the budget.
+        ran = called(self.server, "advise", "odd", "--folder", found, "--no-curve", database="", **more)
+        self.assertIn("cophy-pg: the budget is 2.0 MB, 20.0 % of the tables; --budget takes another\n", ran.stderr)
+        self.assertEqual(ran.returncode, 3, ran.stderr)
+        self.assertEqual(json.loads((self.folder / "found" / "advice.json").read_text())["asked_pages"], 256)
         homes = "SELECT string_agg(e.extname || ' in ' || n.nspname, ', ' ORDER BY 1) FROM pg_extension e"
         homes += " JOIN pg_namespace n ON n.oid = e.extnamespace WHERE e.extname <> 'plpgsql'"
         self.assertEqual(self.server.value(homes, "odd"), "hypopg in hypopg, pg_stat_statements in counted")
         # Here each role connects without a password, so none is made.
         self.assertFalse((self.folder / ".pgpass").exists())
-        self.assertEqual(self.call(self.server, "odd").stdout.splitlines()[1:], [names, command])
+        self.assertEqual(self.call(self.server, "odd").stdout.splitlines()[1:], [command])
 
     def test_it_counts_as_advise_does_and_itself_not_at_all(self) -> None:
         other = PrivateServer()
@@ -66,7 +74,7 @@ class Setup(InFolder):
         other.psql("SELECT counted.pg_stat_statements_reset()", "odd")
         other.psql("SELECT a FROM t WHERE a = 3; SELECT a FROM t WHERE a > 3; SHOW work_mem", "odd")
         # That which began to count anew is counted too.
-        self.assertIn(" and 3 statements are counted. Next:\n", self.call(other, "odd").stdout)
+        self.assertIn(", 3 statements are counted. Next:\n", self.call(other, "odd").stdout)
         words = ("advise", "--budget", "9MB", "--folder", str(self.folder / "found"), "--no-curve")
         more = {"PGUSER": "cophy_advisor", "COPHY_PROGRAM": str(STAND_IN)}
         ran = called(other, *words, database="odd", **more)
@@ -95,27 +103,6 @@ class Setup(InFolder):
         self.assertEqual(
             other.value("SELECT pg_get_userbyid(relowner) FROM pg_class WHERE relname = 'made'", "odd"), "boss"
         )
-
-    def test_a_role_becomes_a_member_of_the_owner_as_often_as_it_is_asked(self) -> None:
-        from cophy_pg.closing import member_of
-
-        (self.folder / "sudo").write_text('#!/bin/sh\nshift 2\nPGUSER=cophy PGDATABASE=postgres exec "$@"\n')
-        (self.folder / "sudo").chmod(0o755)
-        (self.folder / "made.sql").write_text("SET ROLE boss; CREATE TABLE IF NOT EXISTS made_again ();")
-        self.server.psql("CREATE ROLE boss")
-        self.server.psql("GRANT ALL ON SCHEMA public TO boss", "odd")
-        document = {"owners": ["boss"], "host": str(self.server.folder), "database": "odd", "picks": []}
-        told, line = member_of(document, str(self.folder / "made.sql"))
-        path = f"{self.folder}:{Path(str(program('psql'))).parent}:/usr/bin:/bin"
-        for said in ("", "already exists"):
-            how = {"env": {"PATH": path, "PGUSER": "nobody"}, "capture_output": True, "text": True}
-            ran = subprocess.run(["sh", "-c", line], check=True, **how)  # type: ignore[call-overload]
-            self.assertIn(said, ran.stderr)
-        ours = told.split()[3]
-        self.assertEqual(self.server.value(f"SELECT pg_has_role('{ours}', 'boss', 'MEMBER')"), "t")
-        self.server.psql(told[told.index("REVOKE") : -1])
-        self.assertEqual(self.server.value(f"SELECT pg_has_role('{ours}', 'boss', 'MEMBER')"), "f")
-        self.server.psql(f'DROP OWNED BY boss; DROP ROLE boss, "{ours}"', "odd")
 
     def test_a_server_that_counts_nothing_is_told_with_the_lines_that_mend_it(self) -> None:
         other = PrivateServer(settings=("shared_preload_libraries=auto_explain",))
@@ -215,11 +202,16 @@ class Password(InFolder):
         self.assertEqual(name.read_text().splitlines(), lines)
         self.assertEqual(stat.S_IMODE(name.stat().st_mode), 0o600)
 
-    def test_a_fifth_of_the_tables_is_a_budget(self) -> None:
-        from cophy_pg.setup import fifth_of
+    def test_a_share_of_the_tables_is_a_budget(self) -> None:
+        from cophy_pg.amounts import FIFTH, Share, budget
 
-        table = {0: "1MB", 250 * 2**20: "50MB", 100 * 2**30: "20GB"}
-        self.assertEqual([fifth_of(it) for it in table], [*table.values()])
+        table = {0: 128, 250 * 2**20: 128 * 50, 100 * 2**30: 128 * 1024 * 20}
+        self.assertEqual([FIFTH.pages(it) for it in table], [*table.values()])
+        shares = {"20%": FIFTH, "7.5%": Share(7.5), "2MB": 256, "9": 9}
+        self.assertEqual([budget(it) for it in shares], [*shares.values()])
+        for it in ("0%", "%", "-1%", "a%", "12345%"):
+            with self.assertRaises(argparse.ArgumentTypeError):
+                budget(it)
 
 
 if __name__ == "__main__":

@@ -1,11 +1,13 @@
-"""The servers of this machine, by the sockets on which they listen."""
+"""The servers of this machine, by the sockets on which they listen, and how a call connects where nobody says so."""
 from __future__ import annotations
 
+import getpass
 import os
 import re
 import socket
 from collections.abc import Sequence
 
+from cophy_pg.inputs import ADVISOR
 from cophy_pg.progress import say
 
 SOCKETS = ("/var/run/postgresql",)
@@ -51,3 +53,27 @@ def _listens(name: str) -> bool:
         except OSError:
             return False
     return True
+
+
+def run_as(user: str) -> list[str]:
+    """What stands before a command that a user of this machine is to run."""
+    known: dict[str, list[str]] = {"root": ["runuser", "-u", user, "--"], user: []}
+    return known.get(getpass.getuser(), ["sudo", "-u", user])
+
+
+def connect_as_set_up(database: str, host: str = "", port: int = 0) -> None:
+    """Lets this call connect as `setup` has it: to a database of this machine, or of a host and a port that are known,
+    as `cophy_advisor`, where the environment says nothing else."""
+    given = os.environ
+    given["PGDATABASE"] = database
+    given["PGUSER"] = given.get("PGUSER") or ADVISOR
+    if not given.get("PGHOST"):
+        given["PGHOST"] = host or LOCAL[0]
+        if port and not given.get("PGPORT"):
+            given["PGPORT"] = str(port)
+    given["PGPORT"] = port_of(given["PGHOST"])
+
+
+def is_told_where(dsn: str) -> bool:
+    """Whether a connection string, a service or the environment names the database."""
+    return bool(dsn or os.environ.get("PGSERVICE") or os.environ.get("PGDATABASE"))

@@ -151,14 +151,14 @@ REFUSE = r"""WITH RECURSIVE touched AS (
     SELECT DISTINCT c.relowner AS oid, pg_has_role(current_user,c.relowner,'USAGE') AS is_own
     FROM touched t JOIN pg_class c ON c.oid=t.oid
 ), names AS (
-    SELECT string_agg(shown, ' and ') AS owners, string_agg(shown, ' or ') FILTER (WHERE NOT rolsuper) AS others,
-        bool_and(is_own) AS is_owner, string_agg('REVOKE '||shown||' FROM '||quote_ident(session_user),'; ') FILTER (WHERE r.oid IN (
+    SELECT string_agg(shown,' and ') AS owners, string_agg(shown,' or ') FILTER (WHERE NOT rolsuper) AS others,
+        bool_and(is_own) AS is_owner, string_agg('REVOKE '||shown||' FROM '||quote_ident(session_user),'; ') FILTER (WHERE NOT :{?joined} AND r.oid IN (
         SELECT roleid FROM pg_auth_members WHERE member=to_regrole(quote_ident(session_user)))) AS leave
     FROM owners o JOIN (SELECT oid,rolsuper,regexp_replace(quote_ident(rolname),'[^ -~]','?','g') AS shown FROM pg_roles) r
         ON r.oid=o.oid
 )
 SELECT coalesce(owners,'') AS owners, coalesce(is_owner,true) AS is_owner, 'done'||coalesce(
-    '; to leave the owner, if joined for this alone: '||leave,'') AS done, coalesce(
+    '; joined the owner for this alone? '||leave,'') AS done, coalesce(
     'run it as ' || others || ' (psql -X -U), or as a role that is a member of it (GRANT)',
     'disable the event trigger, or give its function to a superuser') AS todo,
     EXISTS (SELECT FROM pg_roles o WHERE NOT o.rolsuper AND o.rolname <> session_user AND (

@@ -1,6 +1,7 @@
 """What `advise` prints: a verdict, the indexes, and the one command that makes them. All else is counted."""
 from __future__ import annotations
 
+import shlex
 from typing import Any
 
 from cophy_text import files
@@ -13,7 +14,6 @@ from cophy_pg.closing import (
     doubts_of,
     is_hint,
     made_hints,
-    member_of,
     pages_of,
     proof_of,
     recommended_of,
@@ -24,6 +24,7 @@ from cophy_pg.closing import (
 from cophy_pg.folder import Folder
 from cophy_pg.guesses import is_judged, saved_of, seconds_of
 from cophy_pg.hints import ALONE, hints_shown
+from cophy_pg.maker import maker_of
 from cophy_pg.overview import headline, measured, much_skipped, named, part_of, purpose, time_of, unhelped, user_of
 from cophy_pg.recommended import LITTLE
 from cophy_pg.searches import CUT, WELL_FILLED
@@ -59,12 +60,12 @@ def verdict(document: dict[str, Any], kept: Folder) -> list[str]:
     if picks:
         known = [it["build_seconds"] for _, it in advised or picks if it.get("build_seconds") is not None]
         time = f" (about {duration(sum(known))}, reads and writes go on)" if known and not _locks(document) else ""
-        script = kept.path(folder.DDL)
-        commands, member = commands_of(document, script), member_of(document, script)
+        maker = maker_of(document)
+        commands = (
+            [shlex.join(["sh", kept.path(folder.MAKE)])] if maker else commands_of(document, kept.path(folder.DDL))
+        )
         each = ", a line for each owner" * (len(commands) > 1)
-        # There are words left for this where no other line makes them.
-        back = ", -v undo=1 takes them back" * (not member)
-        lines += [f"make them{time}{each}{back}:", *commands, *member, seen_by(kept)]
+        lines += [f"make them{time}{each}, -v undo=1 takes them back:", *commands, seen_by(kept)]
     return lines
 
 
@@ -146,7 +147,7 @@ def _notes(advised: list[Row], document: dict[str, Any]) -> list[str]:
     much = [it for it in _apart(advised)[0] if saved_of(it[1]) < little and it[1]["stored_pages"] > MUCH_SPACE * size]
     for at, it in much[:1]:
         what = f"{at} takes {space(it['stored_pages'])} for {percent(saved_of(it))}"
-        lines += [f"{what}: psql -v without={at} leaves it out"]
+        lines += [f"{what}: -v without={at} leaves it out"]
     summed = sum(saved_of(it) for _, it in advised)
     if advised and abs(summed - whole) >= FEW:
         why = "others stand in for one that is missing" if summed < whole else "some save only together"
@@ -179,7 +180,7 @@ def _together(little: list[Row]) -> str:
     """Picks that save little with what they take and save together, and how the script passes over them."""
     begin = _begin(f"{little[0][0]}-{little[-1][0]}.", sum(it["stored_pages"] for _, it in little))
     what = f"{len(little)} indexes that save less than {LITTLE} % each"
-    passed = f"psql -v without={','.join(str(at) for at, _ in little)} leaves them out"
+    passed = f"-v without={','.join(str(at) for at, _ in little)} leaves them out"
     return f"{begin}  {percent(sum(saved_of(it) for _, it in little)):>7}  {what}: {passed}"
 
 
@@ -200,7 +201,7 @@ def _unadvised(document: dict[str, Any]) -> list[str]:
     more = document["stored_pages"] - recommended_of(document)["stored_pages"] + pages_of(document)
     over = more - document["asked_pages"]
     too_much = f", with which all are {space(over)} over the budget" if over > 0 else ""
-    return [f"{what} ({size}{too_much}; psql -v all=1 makes {'it' if count == 1 else 'them'}{' too' * made})"]
+    return [f"{what} ({size}{too_much}; -v all=1 makes {'it' if count == 1 else 'them'}{' too' * made})"]
 
 
 def _rest(document: dict[str, Any], kept: Folder) -> list[str]:
