@@ -16,10 +16,8 @@ WHERE d.datname = current_database() AND s.query ~* '^\\s*(/\\*.*?\\*/)?\\s*EXPL
 NOTHING_TO_MAKE = 3
 
 
-def advised(
-    server: FieldServer, connection: Connection, budget: int, folder: Path, words: list[str]
-) -> tuple[list[Index], dict[str, Any]]:
-    """The indexes within so many pages, and what the advice says of itself."""
+def advised(server: FieldServer, connection: Connection, budget: int, folder: Path, words: list[str]) -> dict[str, Any]:
+    """What the advice within so many pages says."""
     calls = _explains(connection)
     ran = subprocess.run(
         [str(TOOL), "advise", "--budget", str(budget), "--folder", str(folder), "--json", *words],
@@ -32,7 +30,19 @@ def advised(
         raise RuntimeError(f"cophy-pg advise: {ran.stderr.strip().splitlines()[-1:]}")
     document = json.loads(ran.stdout)
     document["calls"] = _explains(connection) - calls
-    return [index_of(it["statements"][0]) for it in document["picks"]], document
+    found: dict[str, Any] = document
+    return found
+
+
+def picks_of(document: dict[str, Any]) -> list[Index]:
+    """The indexes of all picks."""
+    return [index_of(it["statements"][0]) for it in document["picks"]]
+
+
+def made_of(document: dict[str, Any]) -> list[Index]:
+    """Those that the script makes unless it is told otherwise."""
+    made = [it for it in document["hints"] if not it["why_not"]]
+    return [index_of(it["statements"][0]) for it in [*document["picks"], *made] if not it.get("caveat")]
 
 
 def _explains(connection: Connection) -> int:
