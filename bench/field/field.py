@@ -88,14 +88,12 @@ class Field:
         chosen = {}
         with session(self.server, self.database) as connection:
             for share, budget in budgets.items():
-                began = time.monotonic()
                 folder = self.folder / f"{self.words.name}-advice-{share}"
                 self.say(f"{self.words.name} at {share} %")
                 words = ["--program", self.words.program, *self._values(), *self.words.passed]
-                document = advised(self.server, connection, budget, folder, words)
-                chosen[share] = document, time.monotonic() - began
+                chosen[share] = advised(self.server, connection, budget, folder, words)
         for (name, share), file in files.items():
-            document, took = chosen[share]
+            document = chosen[share]
             whole = document if name == self.words.name else document["recommended"]
             self.measured(
                 file,
@@ -103,12 +101,11 @@ class Field:
                 advisor=name,
                 sizes="real",
                 share=share,
-                seconds_to_advise=took,
                 budget=budgets[share],
                 stored_pages=whole["stored_pages"],
                 cost=document["cost"],
                 server_cost=document["server_cost"],
-                **{it: document[it] for it in ("calls", "size_pages", "left_out", "seconds")},
+                **{it: document[it] for it in ("calls", "seconds_to_advise", "size_pages", "left_out", "seconds")},
             )
 
     def _values(self) -> list[str]:
