@@ -21,18 +21,17 @@ sys.path[:0] = [str(HERE), str(HERE.parents[1] / "tools" / "tests")]
 from databases import SCALES, collect, make  # noqa: E402
 from hypothetical import Planner  # noqa: E402
 from measuring import Measured, RealSizes, kept, measure  # noqa: E402
-from ours import advised  # noqa: E402
+from ours import advised, made_of, picks_of  # noqa: E402
 from private_server import missing  # noqa: E402
 from rivals import RIVALS, Sizes  # noqa: E402
 from server import FieldServer  # noqa: E402
 from sessions import Index, index_of, session  # noqa: E402
 from statements import HALVES, Statement, statements_of  # noqa: E402
-from tables import text_of  # noqa: E402
+from tables import MADE, OURS, text_of  # noqa: E402
 
 BUDGETS = (10, 25, 50, 100)
 SIZES = {"foreign keys": ("real",), "Dexter": ("real", "hypopg"), "greedy": ("real", "hypopg")}
 """How a rival measures what its picks take: as they are when they are made, or as hypopg says before."""
-OURS = "cophy"
 BUILT = HERE.parents[1] / "crates" / "cophy_cli" / "out" / "cophy_cli"
 
 
@@ -62,7 +61,7 @@ class Field:
         with session(self.server, self.database) as connection:
             planner = Planner(connection, self.statements, self.scale)
             for name in (it for it in RIVALS if it in self.words.advisors):
-                for sizes in SIZES[name]:
+                for sizes in (it for it in SIZES[name] if it in self.words.sizes):
                     for share, budget in budgets.items():
                         self._rival(planner, name, sizes, share, budget)
 
@@ -79,7 +78,9 @@ class Field:
         self.measured(file, chosen, **more, calls=calls, seconds_to_advise=took)
 
     def _ours(self, budgets: dict[int, int]) -> None:
-        files = {share: self.folder / f"{self.words.name}-real-{share}.json" for share in budgets}
+        """All picks, and those that the script makes unless it is told otherwise."""
+        parts = {self.words.name: picks_of, f"{self.words.name}{MADE}": made_of}
+        files = {(name, share): self.folder / f"{name}-real-{share}.json" for name in parts for share in budgets}
         if OURS not in self.words.advisors or all(it.exists() for it in files.values()):
             return
         self.say("collecting")
@@ -87,25 +88,25 @@ class Field:
         chosen = {}
         with session(self.server, self.database) as connection:
             for share, budget in budgets.items():
-                began = time.monotonic()
                 folder = self.folder / f"{self.words.name}-advice-{share}"
                 self.say(f"{self.words.name} at {share} %")
                 words = ["--program", self.words.program, *self._values(), *self.words.passed]
-                indexes, document = advised(self.server, connection, budget, folder, words)
-                chosen[share] = indexes, document, time.monotonic() - began
-        for share, (indexes, document, took) in chosen.items():
-            more = {
-                "advisor": self.words.name,
-                "sizes": "real",
-                "share": share,
-                "seconds_to_advise": took,
-                "budget": budgets[share],
-            }
-            parts = {
-                it: document[it]
-                for it in ("calls", "size_pages", "stored_pages", "left_out", "seconds", "cost", "server_cost")
-            }
-            self.measured(files[share], indexes, **more, **parts)
+                chosen[share] = advised(self.server, connection, budget, folder, words)
+        for (name, share), file in files.items():
+            document = chosen[share]
+            whole = document if name == self.words.name else document["recommended"]
+            self.measured(
+                file,
+                parts[name](document),
+                advisor=name,
+                sizes="real",
+                share=share,
+                budget=budgets[share],
+                stored_pages=whole["stored_pages"],
+                cost=document["cost"],
+                server_cost=document["server_cost"],
+                **{it: document[it] for it in ("calls", "seconds_to_advise", "size_pages", "left_out", "seconds")},
+            )
 
     def _values(self) -> list[str]:
         """The words by which ours gets the statements with values, as the rivals have them."""
@@ -127,7 +128,8 @@ class Field:
         if same:
             found = Measured(**{it: json.loads(same[0].read_text())[it] for it in asdict(Measured())})
         else:
-            found = measure(self.server, self.database, indexes, self.statements, self.scale, self.words.runs)
+            runs = None if self.words.untimed else self.words.runs
+            found = measure(self.server, self.database, indexes, self.statements, self.scale, runs)
         kept(file, found, **more, calls_of={it.name: it.calls for it in self.statements})
 
     def again(self) -> None:
@@ -165,6 +167,7 @@ def main() -> int:
     parser.add_argument(
         "--advisors", default=f"{OURS},{','.join(RIVALS)}", metavar="NAMES", help="which advisors (all)"
     )
+    parser.add_argument("--sizes", default="real,hypopg", metavar="NAMES", help="by which rivals choose (both)")
     parser.add_argument("--budgets", default=BUDGETS, type=numbers, metavar="SHARES", help="in percent of the heap")
     parser.add_argument("--scale", type=float, default=1.0, help="by what numbers of rows are multiplied (1)")
     parser.add_argument("--name", default=OURS, help=f"by which the results of ours are kept ({OURS})")
@@ -172,7 +175,9 @@ def main() -> int:
         "--values", action="store_true", help="ours gets statements with values, as its rivals do; name it otherwise"
     )
     parser.add_argument("--runs", type=int, default=5, help="how often each sample is run; the median counts (5)")
+    parser.add_argument("--untimed", action="store_true", help="no times: costs and pages alone, for --again to time")
     parser.add_argument("--again", action="store_true", help="a further round over all that was chosen before")
+    parser.add_argument("--rounds", type=int, default=1, help="how many rounds --again takes (1)")
     parser.add_argument("--program", default=str(BUILT), help="the built program (default: that of this repository)")
     parser.add_argument(
         "--pass", dest="passed", action="append", default=[], metavar="WORD", help="for cophy-pg advise"
@@ -180,7 +185,7 @@ def main() -> int:
     words = parser.parse_args()
     if missing():
         sys.exit(missing())
-    names, words.advisors = words.databases.split(","), words.advisors.split(",")
+    names, words.advisors, words.sizes = (it.split(",") for it in (words.databases, words.advisors, words.sizes))
     if unknown := [it for it in names if it not in SCALES]:
         sys.exit(f"there is no database {unknown[0]}: there are {', '.join(SCALES)}")
     words.folder.mkdir(parents=True, exist_ok=True)
@@ -194,7 +199,7 @@ def main() -> int:
             if it not in server.databases():
                 field.say("filling")
                 make(server, it, field.scale)
-            if words.again:
+            for _ in range(words.rounds * words.again):
                 field.again()
             field.run()
         text = text_of(words.folder / words.half, names, words.budgets)

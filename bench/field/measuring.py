@@ -71,9 +71,15 @@ def _drop_left(connection: Connection) -> None:
 
 
 def measure(
-    server: FieldServer, database: str, indexes: list[Index], statements: list[Statement], scale: float, runs: int
+    server: FieldServer,
+    database: str,
+    indexes: list[Index],
+    statements: list[Statement],
+    scale: float,
+    runs: int | None,
 ) -> Measured:
-    """Measures all statements, those that write last, and takes back what they wrote."""
+    """Measures all statements, those that write last, and takes back what they wrote. Without a number of runs no times are
+    taken."""
     found, began = Measured(), time.monotonic()
     with session(server, database) as connection, present(connection, indexes) as names:
         connection.execute("VACUUM")
@@ -84,8 +90,12 @@ def measure(
             plans = [explained(connection, sample) for sample in samples]
             taken.update(*map(index_names, plans))
             found.costs[it.name] = statistics.fmean(plan["Total Cost"] for plan in plans)
-            both = [_milliseconds(connection, sample, runs) for sample in samples]
-            found.times[it.name], found.processor[it.name] = ([statistics.fmean(one)] for one in zip(*both))
+            both = [] if runs is None else [_milliseconds(connection, sample, runs) for sample in samples]
+            for times, taken_of in (
+                (found.times, [one[0] for one in both]),
+                (found.processor, [one[1] for one in both]),
+            ):
+                times[it.name] = [statistics.fmean(taken_of)] if taken_of else []
         found.taken = [str(index) for name, index in names.items() if name in taken]
     with session(server, database) as connection:
         connection.execute("VACUUM")

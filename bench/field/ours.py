@@ -3,6 +3,7 @@ from __future__ import annotations
 
 import json
 import subprocess
+import time
 from pathlib import Path
 from typing import Any
 
@@ -16,11 +17,14 @@ WHERE d.datname = current_database() AND s.query ~* '^\\s*(/\\*.*?\\*/)?\\s*EXPL
 NOTHING_TO_MAKE = 3
 
 
-def advised(
-    server: FieldServer, connection: Connection, budget: int, folder: Path, words: list[str]
-) -> tuple[list[Index], dict[str, Any]]:
-    """The indexes within so many pages, and what the advice says of itself."""
-    calls = _explains(connection)
+def advised(server: FieldServer, connection: Connection, budget: int, folder: Path, words: list[str]) -> dict[str, Any]:
+    """What the advice within so many pages says, with the planner's calls. A former call's that was broken off behind it is
+    taken as it is."""
+    known = folder.with_name(f"{folder.name}.document")
+    if known.exists():
+        found: dict[str, Any] = json.loads(known.read_text())
+        return found
+    calls, began = _explains(connection), time.monotonic()
     ran = subprocess.run(
         [str(TOOL), "advise", "--budget", str(budget), "--folder", str(folder), "--json", *words],
         env=server.environment(connection.info.dbname, PGUSER="cophy_advisor"),
@@ -31,8 +35,20 @@ def advised(
     if ran.returncode not in (0, NOTHING_TO_MAKE):
         raise RuntimeError(f"cophy-pg advise: {ran.stderr.strip().splitlines()[-1:]}")
     document = json.loads(ran.stdout)
-    document["calls"] = _explains(connection) - calls
-    return [index_of(it["statements"][0]) for it in document["picks"]], document
+    document |= {"seconds_to_advise": time.monotonic() - began, "calls": _explains(connection) - calls}
+    known.write_text(json.dumps(document))
+    return dict(document)
+
+
+def picks_of(document: dict[str, Any]) -> list[Index]:
+    """The indexes of all picks."""
+    return [index_of(it["statements"][0]) for it in document["picks"]]
+
+
+def made_of(document: dict[str, Any]) -> list[Index]:
+    """Those that the script makes unless it is told otherwise."""
+    made = [it for it in document["hints"] if not it["why_not"]]
+    return [index_of(it["statements"][0]) for it in [*document["picks"], *made] if not it.get("caveat")]
 
 
 def _explains(connection: Connection) -> int:

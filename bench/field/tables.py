@@ -9,7 +9,8 @@ from typing import Any
 
 SLOWER, LEAST_SLOWER = 1.1, 0.05
 """A statement is slower that takes this many times as long, and so many milliseconds more."""
-OURS = "cophy"
+OURS, MADE = "cophy", "_made"
+"""Ours with all picks, and behind its name what the script makes alone."""
 RIVALS = (("greedy", "real"), ("greedy", "hypopg"), ("Dexter", "real"), ("Dexter", "hypopg"), ("foreign keys", "real"))
 HEADS = (
     "budget",
@@ -37,13 +38,13 @@ def advisors(folder: Path) -> list[tuple[str, str]]:
 
 def load(folder: Path, share: int | None = None, advisor: str = "", sizes: str = "") -> Result | None:
     """A measurement; without a share that without any index. Of several rounds it has the median: the least by the
-    processor may be one of which the system hadn't counted all yet."""
+    processor may be one of which the system hadn't counted all yet. What no round has timed yet has no times."""
     file = folder / ("none.json" if share is None else f"{advisor.replace(' ', '_')}-{sizes}-{share}.json")
     if not file.exists():
         return None
     found: Result = json.loads(file.read_text())
-    found["times"] = {name: statistics.median(it) for name, it in found["times"].items()}
-    found["processor"] = {name: statistics.median(it) for name, it in found["processor"].items()}
+    for what in ("times", "processor"):
+        found[what] = {name: statistics.median(it) for name, it in found[what].items() if it}
     return found
 
 
@@ -57,8 +58,14 @@ def slower(found: Result, none: Result) -> list[str]:
     return [
         name
         for name, took in found["times"].items()
-        if took > SLOWER * none["times"][name] and took > none["times"][name] + LEAST_SLOWER
+        if name in none["times"] and took > max(SLOWER * none["times"][name], none["times"][name] + LEAST_SLOWER)
     ]
+
+
+def share_of(found: Result, none: Result, what: str) -> str:
+    """What a measurement has of that without any index, in percent; nothing where either wasn't timed."""
+    part, whole = weighted(found, what), weighted(none, what)
+    return f"{100 * part / whole:.1f}" if part and whole else ""
 
 
 def row(found: Result, none: Result) -> list[str]:
@@ -66,9 +73,7 @@ def row(found: Result, none: Result) -> list[str]:
     pages, budget = sum(found["pages"].values()), found["budget"]
     idle = sum(size for name, size in found["pages"].items() if name not in found["taken"])
     return [
-        f"{100 * weighted(found, 'costs') / weighted(none, 'costs'):.1f}",
-        f"{100 * weighted(found, 'times') / weighted(none, 'times'):.1f}",
-        f"{100 * weighted(found, 'processor') / max(1e-9, weighted(none, 'processor')):.1f}",
+        *(share_of(found, none, it) for it in ("costs", "times", "processor")),
         str(len(found["pages"])),
         f"{100 * pages / budget:.0f}",
         f"{100 * idle / budget:.1f}",
@@ -102,8 +107,9 @@ def text_of(folder: Path, databases: list[str], budgets: tuple[int, ...]) -> str
             worse += [
                 f"- {database}, {advisor}, {sizes}, {it}" for it in worsened([(s, it) for s, it in several if it])
             ]
-    if beside := compared(folder, databases, budgets):
-        lines += ["", "Ours beside a rival at equal real size (the mean is the geometric one):", "", *beside]
+    for ours, what in ((OURS, "Ours"), (f"{OURS}{MADE}", "What the script makes")):
+        if beside := compared(folder, databases, budgets, ours):
+            lines += ["", f"{what} beside a rival at equal real size (the mean is the geometric one):", "", *beside]
     if worse:
         lines += [
             "",
@@ -114,7 +120,7 @@ def text_of(folder: Path, databases: list[str], budgets: tuple[int, ...]) -> str
     return "\n".join(lines[1:]) + "\n"
 
 
-def compared(folder: Path, databases: list[str], budgets: tuple[int, ...]) -> list[str]:
+def compared(folder: Path, databases: list[str], budgets: tuple[int, ...], own: str) -> list[str]:
     """At how many points ours is at or below each rival at equal real size, and the point at which it is worst."""
     lines = []
     for rival in ("greedy", "Dexter", "foreign keys"):
@@ -122,8 +128,8 @@ def compared(folder: Path, databases: list[str], budgets: tuple[int, ...]) -> li
             ratios = {}
             for database in databases:
                 for share in budgets:
-                    ours, theirs = (load(folder / database, share, it, "real") for it in (OURS, rival))
-                    if ours and theirs and weighted(theirs, what):
+                    ours, theirs = (load(folder / database, share, it, "real") for it in (own, rival))
+                    if ours and theirs and weighted(ours, what) and weighted(theirs, what):
                         ratios[f"{database} at {share} %"] = weighted(ours, what) / weighted(theirs, what)
             if ratios:
                 good, worst = sum(it <= 1 for it in ratios.values()), max(ratios, key=lambda it: ratios[it])
@@ -140,7 +146,7 @@ def worsened(found: list[tuple[int, Result]]) -> list[str]:
     lines = []
     for (small, before), (large, after) in zip(found, found[1:]):
         for what, least in (("costs", 0.0), ("times", LEAST_SLOWER), ("processor", LEAST_SLOWER)):
-            if weighted(after, what) > WORSE * weighted(before, what):
+            if weighted(before, what) and weighted(after, what) > WORSE * weighted(before, what):
                 more = {
                     name: (after[what][name] - it) * after["calls_of"][name]
                     for name, it in before[what].items()

@@ -163,9 +163,10 @@ class FirstPage(unittest.TestCase):
     def test_it_is_read_in_less_than_two_minutes_and_has_all_commands(self) -> None:
         page, _ = (ROOT / "docs/POSTGRES.md").read_text().split("\nThat is all that is needed.")
         before, result, _ = page.rsplit("```\n", 2)
+        self.assertLessEqual(len(before.partition("cophy-pg setup")[0].split()), 100)
         self.assertLessEqual(len(before.split()), 150)
         self.assertLessEqual(len(result.split()), 150)
-        places = [page.index(it) for it in ("apt install", "cophy-pg setup", "advise --budget 26MB", "undo=1")]
+        places = [page.index(it) for it in ("apt install", "cophy-pg setup", "advise shop", "undo=1")]
         self.assertEqual(places, sorted(places))
 
     def test_the_readme_leads_an_administrator_there_at_once(self) -> None:

@@ -2,11 +2,15 @@
 from __future__ import annotations
 
 import json
+import os
+import shutil
+import subprocess
 import unittest
 from typing import Any
 from unittest import mock
 
-from fixtures import NO_HYPOPG, NO_PARSER, ROOT, STAND_IN, OverOwn
+from fixtures import NO_HYPOPG, NO_PARSER, ROOT, STAND_IN, TOOL, OverOwn
+from patience import LONG
 from schema_check import faults
 
 if not NO_PARSER:
@@ -15,7 +19,7 @@ if not NO_PARSER:
     from cophy_pg.effect_text import lines_of
     from cophy_pg.folder import Folder
     from cophy_pg.inputs import Input
-    from cophy_pg.measured import a_call, measured_since
+    from cophy_pg.measured import Measured, a_call, called_since, told_of, writes_of
     from cophy_pg.paths import Paths
     from cophy_pg.snapshots import Count, Snapshot, digest
     from cophy_pg.standing import Found, shown_column, state_of
@@ -116,7 +120,7 @@ class Asked(unittest.TestCase):
 
     def shown(self, *rows: tuple[str, bool]) -> tuple[list[int], bool]:
         given = self.given(*rows)
-        with mock.patch("cophy_pg.effect.commands_of", return_value=["psql"]):
+        with mock.patch("cophy_pg.effect.made_by", return_value=["psql"]):
             document = described(given)
         self.assertEqual(document["make"], [] if given.is_all_there() else ["psql"])
         return [it["place"] for it in document["indexes"]], given.is_all_there()
@@ -151,7 +155,8 @@ class Times(unittest.TestCase):
     def measured(self, *counts: tuple[int, float], there: tuple[int, ...] = (1, 3)) -> list[tuple[int, bool, int]]:
         """The numbers of the statements, whether an index helps them, and their calls since."""
         now = [self.input(at, calls, seconds) for at, (calls, seconds) in enumerate(counts, 1)]
-        found = measured_since(Snapshot("7", {}, "d"), now, self.then, self.document, self.paths, there)
+        every = called_since(Snapshot("7", {}, "d"), now, self.then, self.document, self.paths, there)
+        found = told_of(every)
         self.times = a_call(found)
         return [(it.numbers[0], it.is_helped, it.calls) for it in found]
 
@@ -166,9 +171,17 @@ class Times(unittest.TestCase):
     def test_what_got_much_slower_is_told_too(self) -> None:
         counts = (20, 0.011), (10, 0.01), (10, 0.01), (20, 0.03), (20, 0.021)
         self.assertEqual(self.measured(*counts), [(1, True, 10), (4, False, 10)])
+        # Not by a few calls.
+        counts = (20, 0.011), (10, 0.01), (10, 0.01), (14, 0.026), (20, 0.021)
+        self.assertEqual(self.measured(*counts), [(1, True, 10)])
         # A loss that nobody feels isn't.
         counts = (1010, 1.01), (10, 0.01), (10, 0.01), (20, 0.0225), (10, 0.01)
         self.assertEqual(self.measured(*counts), [(1, True, 1000)])
+
+    def test_those_that_write_are_told_apart(self) -> None:
+        texts = ("INSERT INTO t", " update t", "SELECT 1", "WITH a AS (SELECT 2) DELETE FROM t", "DELETE FROM t")
+        found = [Measured([], it, False, 1, 1.0, 1.0) for it in texts]
+        self.assertEqual([it.sql for it in writes_of(found)], [texts[0], texts[1], texts[4]])
 
     def test_what_wasnt_called_or_has_another_path_isnt(self) -> None:
         same = [(10, 0.01)] * 5
@@ -194,10 +207,12 @@ class Text(unittest.TestCase):
             for at in range(1, count + 1)
         ]
         listed = [
-            {"numbers": [at], "sql": "S" * 60, "helped": True, "calls": 9, "before": 3000.0, "since": 40.0 * at}
+            {"numbers": [at], "sql": "S" * 60, "helped": True, "slower": False, "calls": 9, "before": 3000.0}
+            | {"since": 40.0 * at}
             for at in range(1, statements + 1)
         ]
-        counted = {"begin": "indexes", "calls": 9, "before": 3.14, "since": 0.4, "statements": listed}
+        every: dict[str, Any] = {"calls": 9, "before": 3.14, "since": 0.4}
+        counted = {"begin": "indexes", **every, "writes": every | {"calls": 0}, "all": every, "statements": listed}
         cost = {"statements": 9, "of": 9, "before": 200.0, "now": 20.0, "advised": 9.0, "time": None}
         document = {"version": 1, "database": "d", "made": "", "source": "pg_stat_statements", "indexes": indexes}
         document |= {"make": ["psql"] * (count >= 10), "server_cost": cost, "counted": counted} | more
@@ -209,13 +224,13 @@ class Text(unittest.TestCase):
         self.assertEqual(lines[0], "All 2 indexes are there, 1 of them in use, not used yet: 1.")
         self.assertEqual(lines[1], "Since all indexes stood these 2 statements took 0.40 ms a call, 3.1 before.")
         saved = "By the server's planner the statements cost 90.0 % less; the advice said 91.0 %."
-        self.assertEqual(lines[2], saved)
-        self.assertRegex(lines[5], r"^ 1\. +0  t1\(a+\.\.\.$")
-        self.assertEqual(lines[6], " 2.             1  t2(aaa)")
-        self.assertEqual(lines[9], f"{'3,000.0':>10} {'40.0':>10} {'9':>11}  {'S' * 60}")
+        self.assertEqual(lines[2:4], ["All 9 calls took 0.0036 s, at the times before 0.0283.", saved])
+        self.assertRegex(lines[6], r"^ 1\. +0  t1\(a+\.\.\.$")
+        self.assertEqual(lines[7], " 2.             1  t2(aaa)")
+        self.assertEqual(lines[10], f"{'3,000.0':>10} {'40.0':>10} {'9':>11}  {'S' * 60}")
         for count, statements in ((21, 0), (10, 10), (3, 90), (90, 90)):
             lines = lines_of(self.found(count, statements))
-            self.assertLessEqual(len(lines), 25 if count <= 12 else 21)
+            self.assertLessEqual(len(lines), 26 if count <= 12 else 21)
             self.assertLessEqual(max(map(len, lines)), 100)
             # Those that aren't there are told while there is room.
             self.assertEqual(sum("INVALID" in it for it in lines), min(3, count // 10))
@@ -259,23 +274,29 @@ class Text(unittest.TestCase):
     def test_statements_that_became_slower_are_told(self) -> None:
         found = self.found(2, 2)
         one = found["counted"]["statements"][0]
-        one |= {"before": 2.0, "since": 3.0}
         self.assertNotIn("slower", "\n".join(lines_of(found)))
-        one |= {"since": 3.1}
+        one |= {"before": 2.0, "since": 3.1, "slower": True}
         lines = lines_of(found)
         self.assertEqual(
-            lines[2], "1 statement is slower by more than half: look at EXPLAIN ANALYZE of what is marked with a !."
+            lines[3], "1 statement is slower by more than half: look at EXPLAIN ANALYZE of what is marked with a !."
         )
         self.assertEqual(sum("!S" in it for it in lines), 1)
+
+    def test_all_calls_and_those_that_write_are_told(self) -> None:
+        every = {"calls": 9000, "before": 5.0, "since": 1.25}
+        more = {"all": every, "writes": {"calls": 40, "before": 0.1, "since": 0.125}}
+        lines = lines_of(self.found(2, 2, counted=self.found(2, 2)["counted"] | more))
+        told = "All 9,000 calls took 11.2 s, at the times before 45.0; writes 0.12 ms a call, 0.10 before."
+        self.assertEqual(lines[2], told)
 
     def test_calls_from_before_the_indexes_stood_are_told(self) -> None:
         counted = self.found(2, 1)["counted"] | {"begin": "advice"}
         lines = lines_of(self.found(2, 1, counted=counted))
         self.assertTrue(lines[1].startswith("Since the advice this statement took "))
         later = "Calls from before the indexes stood are in it too; the next call of effect leaves them out."
-        self.assertEqual(lines[2], later)
+        self.assertEqual(lines[3], later)
         lines = lines_of(self.found(2, 1, counted=counted, make=["psql -X"]))
-        self.assertEqual(lines[2], "Calls from before the indexes stood are in it too.")
+        self.assertEqual(lines[3], "Calls from before the indexes stood are in it too.")
         self.assertEqual(lines[-2:], ["to make the others:", "psql -X"])
 
 
@@ -369,6 +390,19 @@ class Effect(OverOwn):
         )
         self.assertEqual(self.states(status=3), ["name taken", "INVALID", "there"])
 
+    def test_the_last_folder_here_says_where_the_server_is(self) -> None:
+        self.advise()
+        for name in ("cophy-advice-20260101-000000", "cophy-advice-20260102-000000", "cophy-advice-20260103-000000"):
+            (self.folder / name).mkdir(0o700)
+        shutil.copytree(self.found, self.folder / "cophy-advice-20260102-000000", dirs_exist_ok=True)
+        given = {it: value for it, value in os.environ.items() if not it.startswith("PG")} | {"HOME": "/nowhere"}
+        words = [str(TOOL), "effect", "--json"]
+        ran = subprocess.run(
+            words, cwd=self.folder, env=given, capture_output=True, text=True, check=False, timeout=LONG
+        )
+        self.assertEqual(ran.returncode, 3, ran.stderr)
+        self.assertEqual(json.loads(ran.stdout)["database"], "seen")
+
     def test_statements_of_a_file_have_no_times(self) -> None:
         (self.folder / "given.sql").write_text("SELECT a FROM t WHERE b = 5;\n")
         self.advise("--sql", *self.in_folder("given.sql"))
@@ -387,7 +421,7 @@ class Effect(OverOwn):
         for name, more, said in table:
             with self.subTest(said=said):
                 self.assertIn(said, self.call("effect", name, status=1, **more).stderr)
-        self.call("effect", status=2)
+        self.assertIn("no folder of advise is here", self.call("effect", status=1).stderr)
         self.call("effect", self.found, "--i-trust-the-statements", status=3, PGUSER="cophy")
 
 

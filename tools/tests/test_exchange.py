@@ -6,6 +6,7 @@ import sys
 import unittest
 from collections.abc import Callable, Sequence
 from pathlib import Path
+from unittest import mock
 
 from cophy_text.answers import Candidate
 from fixtures import COPHY, NO_PARSER, ROOT, STAND_IN, InFolder
@@ -206,6 +207,16 @@ class OverTheStandIn(InFolder):
         self.assertIn(self.kept.read(folder.UNFINISHED).decode(), searches.texts.values())
         searches.clear()
         self.assertEqual([it.name for it in Path(self.kept.name).glob(f"{folder.CERTIFICATE}-*")], [])
+
+    def test_how_long_all_takes_is_told_once_by_the_first_search(self) -> None:
+        schema = read_schema(self.kept.read(folder.CATALOGUE))
+        for seconds, wanted in ((0, []), (1, ["by the first search: about 70 seconds more"])):
+            program = Slow(self.program, {"advise": seconds})
+            searches = Searches(program, self.kept, 500, (), Progress(), clock=lambda: program.now)
+            with mock.patch("cophy_pg.progress.say") as said:
+                searches.filling(schema, Rules())
+            lines = [it[0][0] for it in said.call_args_list]
+            self.assertEqual([it for it in lines if it.endswith(" more")], wanted)
 
     def test_exchanging_stops_in_time_with_what_it_found(self) -> None:
         schema, told = read_schema(self.kept.read(folder.CATALOGUE)), list[str]()

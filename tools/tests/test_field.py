@@ -16,9 +16,11 @@ from patience import LONG
 FIELD = ROOT / "bench" / "field"
 sys.path[:0] = [str(FIELD)]
 
+from ours import made_of, picks_of  # noqa: E402
 from prices import Prices  # noqa: E402
 from selections import SELECTIONS  # noqa: E402
 from statements import HALVES, statements_of  # noqa: E402
+from tables import load, row, slower, text_of  # noqa: E402
 
 # By number: the pages of a candidate, and what it saves of which of two statements that cost 100 each.
 KNAPSACK = {1: (6, (60, 0)), 2: (5, (0, 48)), 3: (5, (47, 0)), 4: (9, (80, 0))}
@@ -66,6 +68,42 @@ class Parts(unittest.TestCase):
         self.assertEqual(chosen["Extend"], [[], [1], [1, 2], [1, 2]])
         self.assertEqual(chosen["DB2 Advisor"], [[], [4], [4], [2, 4]])
         self.assertEqual(chosen["AutoAdmin"], [[], [4], [4], [2, 4]])
+
+    def test_what_no_round_has_timed_has_costs_and_pages_alone(self) -> None:
+        with tempfile.TemporaryDirectory() as name:
+            folder = Path(name, "table", "toy")
+            folder.mkdir(parents=True)
+
+            def write(file: str, cost: float, rounds: list[float], pages: dict[str, int]) -> None:
+                found = {"costs": {"q": cost}, "times": {"q": rounds}, "processor": {"q": rounds}, "calls_of": {"q": 2}}
+                more = {"heap": 100, "budget": 50, "taken": [*pages], "calls": 0, "seconds_to_advise": 0}
+                Path(folder, file).write_text(json.dumps({**found, **more, "pages": pages}))
+
+            def told() -> list[str]:
+                none, ours = load(folder), load(folder, 50, "cophy", "real")
+                assert none is not None and ours is not None
+                self.assertEqual(slower(ours, none), [])
+                return row(ours, none)[:5]
+
+            write("none.json", 10, [], {})
+            write("cophy-real-50.json", 4, [], {"t(a)": 20})
+            write("greedy-real-50.json", 5, [], {"t(b)": 20})
+            self.assertEqual(told(), ["40.0", "", "", "1", "40"])
+            text = text_of(folder.parent, ["toy"], (50,))
+            self.assertIn("greedy, cost: at or below at 1 of 1", text)
+            self.assertNotIn("greedy, time", text)
+            write("none.json", 10, [3, 2, 7], {})
+            write("cophy-real-50.json", 4, [1, 1, 2], {"t(a)": 20})
+            self.assertEqual(told(), ["40.0", "33.3", "33.3", "1", "40"])
+
+    def test_the_script_makes_what_has_no_caveat(self) -> None:
+        picks = [
+            {"statements": [f"CREATE INDEX {it} ON public.t ({it});"], "caveat": why}
+            for it, why in (("a", None), ("b", "why"))
+        ]
+        document = {"picks": picks, "hints": []}
+        self.assertEqual([*map(str, picks_of(document))], ["t(a)", "t(b)"])
+        self.assertEqual([*map(str, made_of(document))], ["t(a)"])
 
     @unittest.skipUnless(COPHY.exists(), "the program isn't built")
     def test_costs_that_share_calls_are_those_of_calls_alone(self) -> None:
@@ -118,8 +156,8 @@ class Toy(unittest.TestCase):
 
     def test_each_advisor_is_measured_and_told(self) -> None:
         rivals = ("Dexter-hypopg-50", "Dexter-real-50", "foreign_keys-real-50", "greedy-hypopg-50", "greedy-real-50")
-        self.assertEqual(sorted(self.results), sorted((*rivals, "cophy-real-50", "none")))
-        self.assertEqual(self.text.count("| 50 % |"), 6)
+        self.assertEqual(sorted(self.results), sorted((*rivals, "cophy-real-50", "cophy_made-real-50", "none")))
+        self.assertEqual(self.text.count("| 50 % |"), 7)
 
     def test_all_statements_have_costs_and_times(self) -> None:
         names = {it.name for it in statements_of("orders") if it.half == "table"}

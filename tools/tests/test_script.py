@@ -127,11 +127,21 @@ class Script(OverOwn):
         self.assertIn("let their owner run the script, not a superuser", self.run_script(text, status=3))
         self.run_script(text, "-v", "without=1")
         self.assertIn("only the owner of the tables", self.run_script(text, status=3, PGUSER="stranger"))
-        self.run_script(text, "-v", "without=2", PGUSER="stranger")
+        self.assertNotIn("joined", self.run_script(text, "-v", "without=2", PGUSER="stranger"))
         self.assertEqual(self.names(), ["child_a_idx", "parent_a_idx", "plain_a_idx"])
         self.run_script(text, "-v", "undo=1", "-v", "without=1")
         self.run_script(text, "-v", "undo=1", "-v", "without=2", PGUSER="stranger")
         self.assertEqual(self.names(), [])
+
+    def test_who_joined_the_owner_is_told_what_ends_that(self) -> None:
+        text = self.script(("plain(a)",))
+        self.server.psql('CREATE ROLE boss; ALTER TABLE plain OWNER TO boss; CREATE ROLE "Me" LOGIN', "making")
+        self.server.psql('GRANT CREATE ON SCHEMA public TO boss; GRANT boss TO "Me"', "making")
+        back = 'ALTER TABLE plain OWNER TO cophy; DROP OWNED BY boss; DROP ROLE boss, "Me"'
+        self.addCleanup(self.server.psql, back, "making")
+        told = '\ndone; joined the owner for this alone? REVOKE boss FROM "Me"\n'
+        self.assertIn(told, self.run_script(text, PGUSER="Me"))
+        self.assertIn(told, self.run_script(text, "-v", "undo=1", PGUSER="Me"))
 
     def test_its_statements_are_none_of_the_workload(self) -> None:
         self.server.psql("CREATE EXTENSION pg_stat_statements; SELECT pg_stat_statements_reset()", "making")

@@ -1,15 +1,20 @@
 """`cophy-pg setup`: what a superuser's script makes and says, on a server that counts statements and on one that doesn't."""
 from __future__ import annotations
 
+import argparse
 import base64
 import hashlib
 import hmac
+import json
+import os
 import re
 import shlex
+import socket
 import stat
 import subprocess
 import unittest
 from pathlib import Path
+from unittest import mock
 
 from fixtures import ADVISOR, NO_HYPOPG, ROOT, STAND_IN, InFolder, called
 from private_server import PrivateServer, program
@@ -41,18 +46,24 @@ class Setup(InFolder):
         self.server.psql("CREATE TABLE t AS SELECT generate_series(1, 300000) AS a", "odd")
         ran = self.call(self.server, "odd")
         self.assertRegex(ran.stderr, r"\Acophy-pg: statements have been counted for .* alone: a working day.*\n\Z")
-        first, names, command = ran.stdout.splitlines()
-        self.assertRegex(
-            first, r"\Acophy_advisor may read 'odd', where hypopg is in schema \S+ and 1 statement is counted\. Next:\Z"
-        )
-        self.assertEqual(names, f"export PGHOST={self.server.folder} PGDATABASE=odd PGUSER=cophy_advisor")
-        self.assertTrue(command.endswith("cophy-pg advise --budget 2MB"), command)
+        first, command = ran.stdout.splitlines()
+        self.assertEqual(first, "'odd' can be advised on, 1 statement is counted. Next:")
+        begin, _, end = command.partition(" PGUSER=cophy_advisor ")
+        self.assertEqual(begin, f"PGHOST={self.server.folder}")
+        self.assertTrue(end.endswith("cophy-pg advise odd"), command)
+        more = {"PGUSER": "", "COPHY_PROGRAM": str(STAND_IN)}
+        found = str(self.folder / "found")
+        # The command finds the role, and the budget.
+        ran = called(self.server, "advise", "odd", "--folder", found, "--no-curve", database="", **more)
+        self.assertIn("cophy-pg: the budget is 2.0 MB, 20.0 % of the tables; --budget takes another\n", ran.stderr)
+        self.assertEqual(ran.returncode, 3, ran.stderr)
+        self.assertEqual(json.loads((self.folder / "found" / "advice.json").read_text())["asked_pages"], 256)
         homes = "SELECT string_agg(e.extname || ' in ' || n.nspname, ', ' ORDER BY 1) FROM pg_extension e"
         homes += " JOIN pg_namespace n ON n.oid = e.extnamespace WHERE e.extname <> 'plpgsql'"
         self.assertEqual(self.server.value(homes, "odd"), "hypopg in hypopg, pg_stat_statements in counted")
         # Here each role connects without a password, so none is made.
         self.assertFalse((self.folder / ".pgpass").exists())
-        self.assertEqual(self.call(self.server, "odd").stdout.splitlines()[1:], [names, command])
+        self.assertEqual(self.call(self.server, "odd").stdout.splitlines()[1:], [command])
 
     def test_it_counts_as_advise_does_and_itself_not_at_all(self) -> None:
         other = PrivateServer()
@@ -63,7 +74,7 @@ class Setup(InFolder):
         other.psql("SELECT counted.pg_stat_statements_reset()", "odd")
         other.psql("SELECT a FROM t WHERE a = 3; SELECT a FROM t WHERE a > 3; SHOW work_mem", "odd")
         # That which began to count anew is counted too.
-        self.assertIn(" and 3 statements are counted. Next:\n", self.call(other, "odd").stdout)
+        self.assertIn(", 3 statements are counted. Next:\n", self.call(other, "odd").stdout)
         words = ("advise", "--budget", "9MB", "--folder", str(self.folder / "found"), "--no-curve")
         more = {"PGUSER": "cophy_advisor", "COPHY_PROGRAM": str(STAND_IN)}
         ran = called(other, *words, database="odd", **more)
@@ -92,27 +103,6 @@ class Setup(InFolder):
         self.assertEqual(
             other.value("SELECT pg_get_userbyid(relowner) FROM pg_class WHERE relname = 'made'", "odd"), "boss"
         )
-
-    def test_a_role_becomes_a_member_of_the_owner_as_often_as_it_is_asked(self) -> None:
-        from cophy_pg.closing import member_of
-
-        (self.folder / "sudo").write_text('#!/bin/sh\nshift 2\nPGUSER=cophy PGDATABASE=postgres exec "$@"\n')
-        (self.folder / "sudo").chmod(0o755)
-        (self.folder / "made.sql").write_text("SET ROLE boss; CREATE TABLE IF NOT EXISTS made_again ();")
-        self.server.psql("CREATE ROLE boss")
-        self.server.psql("GRANT ALL ON SCHEMA public TO boss", "odd")
-        document = {"owners": ["boss"], "host": str(self.server.folder), "database": "odd", "picks": []}
-        told, line = member_of(document, str(self.folder / "made.sql"))
-        path = f"{self.folder}:{Path(str(program('psql'))).parent}:/usr/bin:/bin"
-        for said in ("", "already exists"):
-            how = {"env": {"PATH": path, "PGUSER": "nobody"}, "capture_output": True, "text": True}
-            ran = subprocess.run(["sh", "-c", line], check=True, **how)  # type: ignore[call-overload]
-            self.assertIn(said, ran.stderr)
-        ours = told.split()[3]
-        self.assertEqual(self.server.value(f"SELECT pg_has_role('{ours}', 'boss', 'MEMBER')"), "t")
-        self.server.psql(told[told.index("REVOKE") : -1])
-        self.assertEqual(self.server.value(f"SELECT pg_has_role('{ours}', 'boss', 'MEMBER')"), "f")
-        self.server.psql(f'DROP OWNED BY boss; DROP ROLE boss, "{ours}"', "odd")
 
     def test_a_server_that_counts_nothing_is_told_with_the_lines_that_mend_it(self) -> None:
         other = PrivateServer(settings=("shared_preload_libraries=auto_explain",))
@@ -146,6 +136,48 @@ class Clusters(unittest.TestCase):
         self.assertEqual(clusters(listed, "5432"), ["    the cluster 15/main runs: export PGPORT=5433"])
 
 
+class Ports(InFolder):
+    """The port is that of the only server that listens on a socket."""
+
+    def listening(self, port: int) -> socket.socket:
+        ours = socket.socket(socket.AF_UNIX)
+        self.addCleanup(ours.close)
+        ours.bind(str(self.folder / f".s.PGSQL.{port}"))
+        ours.listen()
+        return ours
+
+    def port(self, **environment: str) -> tuple[str, str]:
+        """The port that is taken, and what is said of it."""
+        from cophy_pg.local import port_of
+
+        with mock.patch.dict("os.environ", environment), mock.patch("cophy_pg.local.say") as said:
+            if not environment:
+                os.environ.pop("PGPORT", None)
+            return port_of(str(self.folder)), said.call_args[0][0] if said.called else ""
+
+    def test_it_is_that_of_the_only_server_unless_it_is_given(self) -> None:
+        self.assertEqual(self.port(), ("5432", ""))
+        (self.folder / ".s.PGSQL.5433.lock").touch()
+        first = self.listening(5433)
+        told = "the one server that runs here has port 5433 (PGPORT takes another)"
+        self.assertEqual(self.port(), ("5433", told))
+        self.assertEqual(self.port(PGPORT="5440"), ("5440", ""))
+        second = self.listening(5434)
+        self.assertEqual(self.port(), ("5432", ""))
+        first.close()
+        self.assertEqual(self.port()[0], "5434")
+        second.close()
+        self.assertEqual(self.port(), ("5432", ""))
+
+    def test_of_another_machine_nothing_is_looked_for(self) -> None:
+        from cophy_pg.local import port_of
+
+        with mock.patch("cophy_pg.local.ports", return_value=["5433"]), mock.patch("cophy_pg.local.say"):
+            with mock.patch.dict("os.environ"):
+                os.environ.pop("PGPORT", None)
+                self.assertEqual([port_of(it) for it in ("db.example", "::1")], ["5432", "5433"])
+
+
 class Password(InFolder):
     def test_the_server_gets_what_cant_be_turned_back(self) -> None:
         from cophy_pg.setup import verifier_of
@@ -159,8 +191,6 @@ class Password(InFolder):
         self.assertEqual(server, hmac.digest(salted, b"Server Key", "sha256"))
 
     def test_it_stands_before_the_other_lines_in_the_place_of_the_last_one(self) -> None:
-        from unittest import mock
-
         from cophy_pg.setup import _keep
 
         name = Path(self.folder) / "pass"
@@ -172,11 +202,16 @@ class Password(InFolder):
         self.assertEqual(name.read_text().splitlines(), lines)
         self.assertEqual(stat.S_IMODE(name.stat().st_mode), 0o600)
 
-    def test_a_fifth_of_the_tables_is_a_budget(self) -> None:
-        from cophy_pg.setup import fifth_of
+    def test_a_share_of_the_tables_is_a_budget(self) -> None:
+        from cophy_pg.amounts import FIFTH, Share, budget
 
-        table = {0: "1MB", 250 * 2**20: "50MB", 100 * 2**30: "20GB"}
-        self.assertEqual([fifth_of(it) for it in table], [*table.values()])
+        table = {0: 128, 250 * 2**20: 128 * 50, 100 * 2**30: 128 * 1024 * 20}
+        self.assertEqual([FIFTH.pages(it) for it in table], [*table.values()])
+        shares = {"20%": FIFTH, "7.5%": Share(7.5), "2MB": 256, "9": 9}
+        self.assertEqual([budget(it) for it in shares], [*shares.values()])
+        for it in ("0%", "%", "-1%", "a%", "12345%"):
+            with self.assertRaises(argparse.ArgumentTypeError):
+                budget(it)
 
 
 if __name__ == "__main__":

@@ -100,12 +100,8 @@ class Summary(OverDocument):
         self.assertTrue(next_of(self.document, "x")[0].startswith("to make them in about 30 seconds, let "))
 
     def test_the_owner_who_is_a_user_here_needs_no_password(self) -> None:
-        from cophy_pg.closing import command_of, member_of
+        from cophy_pg.closing import command_of
 
-        for owner, host in (("root", "localhost"), ("app", "db")):
-            self.assertEqual(member_of(self.document | {"owners": [owner], "host": host, "port": 5432}, "/a"), [])
-        told = member_of(self.document | {"owners": ["app"], "host": "localhost", "port": 5432}, "/a")
-        self.assertIn(" && PGHOST= PGUSER= psql -X -p 5432 ", told[1])
         at = {"owners": ["root"], "host": "localhost", "port": 5432}
         self.assertEqual(
             command_of(self.document | at, "/a/b c", "root"), "sudo -u root psql -X -p 5432 -d 'shop & <b>' < '/a/b c'"

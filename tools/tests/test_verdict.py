@@ -26,16 +26,13 @@ class Verdict(OverDocument):
         at = next(at for at, it in enumerate(lines) if it.startswith(" 1."))
         self.assertEqual(lines[at - 1], "        MB     time  index, for")
         self.assertRegex(lines[at], r" 1\.    0\.2   16\.6 %  t0\(a\) +FROM t WHERE b = '<script>alert\.\.\.")
-        self.assertEqual(
-            lines[-6:-4],
-            ["all else: /home/you/advice/details.txt", "make them (about 37 seconds, reads and writes go on):"],
-        )
-        self.assertTrue(lines[-4].endswith("-U app -f /home/you/advice/indexes.sql"))
-        self.assertRegex(lines[-3], r'^or without password, (\w+) joins app until REVOKE "app" FROM "\1":$')
-        where = "-h '/run/db server' -p 5433"
-        made = rf"""-c 'CREATE USER "(\w+)"' -c 'GRANT "app" TO "\1"'"""
-        self.assertRegex(lines[-2], rf"^sudo -u postgres psql {where} {made} && PGUSER= psql -X {where} .* -f /home/")
-        self.assertEqual(lines[-1], "whether it helped: cophy-pg effect /home/you/advice")
+        end = [
+            "all else: /home/you/advice/details.txt",
+            "make them (about 37 seconds, reads and writes go on), -v undo=1 takes them back:",
+            "sh /home/you/advice/make.sh",
+            "whether it helped: cophy-pg effect /home/you/advice",
+        ]
+        self.assertEqual(lines[-4:], end)
         self.assertEqual([it for it in lines if "MB" in it], [lines[0], lines[2], lines[at - 1]])
         self.document["asked_pages"] = 2660
         self.assertEqual(self.verdict()[2], "No indexes within the budget save more by our model (proved).")
@@ -52,18 +49,32 @@ class Verdict(OverDocument):
         self.document["recommended"]["stored_pages"] = 128 * 94
         # All save 83 %; the shared row of those under 1 % has its own words.
         for shares, size, wanted in (
-            ((40.0, 20.0, 16.0, 2.0, 2.9), 61, ["4 takes 61.0 MB for 2.0 %: psql -v without=4 leaves it out"]),
+            ((40.0, 20.0, 16.0, 2.0, 2.9), 61, ["4 takes 61.0 MB for 2.0 %: -v without=4 leaves it out"]),
             ((40.0, 20.0, 16.0, 2.0, 2.9), 23, []),
             ((40.0, 20.0, 16.0, 3.0, 2.9), 61, []),
             ((40.0, 20.0, 22.0, 0.9, 0.9), 61, []),
-            ((30.0, 20.0, 6.0, 5.0, 5.0), 61, ["rows sum to 66 %: each says what is lost without that one alone"]),
+            ((30.0, 20.0, 6.0, 5.0, 5.0), 61, ["rows sum to 66 %, not 83: others stand in for one that is missing"]),
+            ((60.0, 20.0, 6.0, 5.0, 5.0), 61, ["rows sum to 96 %, not 83: some save only together"]),
         ):
             for it, planned in zip(self.document["picks"], shares, strict=True):
                 it["saves"] |= {"planned": planned}
             self.document["picks"][3]["stored_pages"] = 128 * size
             lines = self.verdict()
-            found = [it for it in lines if " takes " in it or it.startswith("rows")]
+            found = [it for it in lines if " MB for " in it or it.startswith("rows")]
             self.assertEqual(found, wanted, shares)
+
+    def test_which_values_cant_be_written_any_more_is_told(self) -> None:
+        self.five()
+        picks = self.document["picks"]
+        picks[0]["caveat"] = "an INSERT would fail"
+        for at, names in ((0, ["z"]), (1, ["a"]), (3, ["b", "a"])):
+            picks[at]["long"] = names
+        wanted = "INSERTs of over 2,704 bytes in t1.a, t3.a .. will fail (index 1, 3)"
+        self.assertIn(wanted, self.verdict())
+        picks[3]["long"] = []
+        self.assertIn("INSERTs of over 2,704 bytes in t1.a will fail (index 1)", self.verdict())
+        picks[1]["long"] = []
+        self.assertFalse([it for it in self.verdict() if "bytes" in it])
 
     def test_indexes_that_save_little_share_a_row(self) -> None:
         self.five()
@@ -75,7 +86,7 @@ class Verdict(OverDocument):
         wanted = [
             " 1.    0.2   10.0 %  t0(a)     WHERE a = 3",
             " 2.    0.2    1.0 %  t1(a, b)  WHERE b > 5",
-            "3-5.   0.5    1.0 %  3 indexes that save less than 1 % each: psql -v without=3,4,5 leaves them out",
+            "3-5.   0.5    1.0 %  3 indexes that save less than 1 % each: -v without=3,4,5 leaves them out",
             "",
         ]
         self.assertEqual(lines[at : at + 4], wanted)
@@ -104,11 +115,9 @@ class Verdict(OverDocument):
         at = next(at for at, it in enumerate(lines) if it.startswith(" 5."))
         self.assertEqual(lines[at], " 5.    5.0 * 12.0 %  t9(lower(a))       WHERE lower(a) = 'a'")
         self.assertTrue(lines[at + 1].startswith("* judged by the server's planner alone: outside our model, "))
-        over = (
-            "1 more isn't recommended (4.0 MB, with which all are 1.0 MB over the budget; psql -v all=1 makes it too)"
-        )
+        over = "1 more isn't recommended (4.0 MB, with which all are 1.0 MB over the budget; -v all=1 makes it too)"
         self.assertIn(over, lines)
-        self.assertIn("make them (about 33 seconds, reads and writes go on):", lines)
+        self.assertIn("make them (about 33 seconds, reads and writes go on), -v undo=1 takes them back:", lines)
         details = lines_of(self.document)
         self.assertTrue(details[0].startswith("5 indexes to make, 21.0 MB of 24.0 MB, and 1 not recommended, 4.0 MB: "))
         at = details.index("5. CREATE INDEX;")
@@ -186,7 +195,7 @@ class Verdict(OverDocument):
         # They cost 2,700 of 9,000 by our model, and no others less than 1,800.
         bound = "Others within the budget save at most 10.0 % of the cost more by our model (proved)."
         self.assertEqual(lines[2], bound)
-        at = lines.index("2 more aren't recommended (10.0 MB; psql -v all=1 makes them too)")
+        at = lines.index("2 more aren't recommended (10.0 MB; -v all=1 makes them too)")
         rows = [(it[:3], it.split()[4][:2]) for it in lines[at - 4 : at - 1]]
         self.assertEqual((rows, lines[at - 1]), ([(" 1.", "t0"), (" 2.", "t2"), (" 3.", "t4")], ""))
         self.assertNotIn("it saves 0.4 %", text)
@@ -209,9 +218,10 @@ class Verdict(OverDocument):
         self.document["recommended"] |= {"picks": 0, "stored_pages": 0}
         lines = self.verdict()
         self.assertTrue(lines[0].startswith("No index is plainly worth making for 'shop & <b>', judged by"), lines)
-        self.assertIn("10 aren't recommended (20.0 MB; psql -v all=1 makes them)", lines)
-        self.assertTrue(lines[-4].endswith("-U app -v all=1 -f /home/you/advice/indexes.sql"), lines[-4])
-        self.assertIn(" -v all=1 -f ", lines[-2])
+        self.assertIn("10 aren't recommended (20.0 MB; -v all=1 makes them)", lines)
+        self.document["host"] = "elsewhere"
+        last = self.verdict()[-2]
+        self.assertTrue(last.endswith("-U app -v all=1 -f /home/you/advice/indexes.sql"), last)
         self.document["picks"] = []
         self.assertTrue(self.verdict()[0].startswith("No index is worth making for"))
 

@@ -102,9 +102,40 @@ class Worths(unittest.TestCase):
             it["saves"]["planned"] = planned
             self.assertEqual(doubt_of(it), why)
 
+    def test_what_saves_by_counted_rows_isnt_doubted_for_what_the_planner_guesses(self) -> None:
+        from cophy_pg.guesses import doubt_of, is_counted
+
+        for text, changes, columns, is_so in (
+            ("SELECT a FROM t WHERE b <= -998254", ["rows of a call"], ("B",), True),
+            (
+                "SELECT a FROM t WHERE b BETWEEN DATE '2024-01-01' AND DATE '2024-01-08'",
+                ["rows of a call"],
+                ("b",),
+                True,
+            ),
+            ("SELECT a FROM t WHERE t.b > 4 AND c = ?", ["cast", "rows of a call"], ("c", "a", "b"), True),
+            ("SELECT a FROM t WHERE b <= -998254", ["parameter range"], ("b",), False),
+            ("SELECT a FROM t WHERE b <= -998254", ["rows of a call"], ("a",), False),
+            ("SELECT a FROM t WHERE b >= ? AND a <> 5", ["rows of a call"], ("a", "b"), False),
+            ("SELECT a FROM t WHERE a IN (?, ?)", ["rows of a call"], ("a", "b"), False),
+        ):
+            with self.subTest(text=text, changes=changes):
+                self.assertEqual(is_counted(text, changes, columns), is_so)
+        saves: dict[str, Any] = {"ours": 27.0, "server": 4.0, "measured": 20.0, "planned": 3.3}
+        doubt = "the server saves 4.0 %: probably not worth 33.0 MB"
+        for ours, is_so, why in ((26.5, True, ""), (5.0, True, ""), (4.9, True, doubt), (26.5, False, doubt)):
+            changes: list[dict[str, Any]] = [
+                {"ours": ours, "counted": is_so},
+                {"ours": -0.2, "counted": False},
+                {"ours": 9.0},
+            ]
+            pick = {"saves": saves, "outcome": "taken", "clustered": False, "stored_pages": 4224, "changes": changes}
+            self.assertEqual(doubt_of(pick), why)
+
     def test_the_statement_that_saves_the_most_time_is_the_first_of_a_pick(self) -> None:
         from cophy_pg.plans import Plans
         from cophy_pg.result import Result
+        from cophy_pg.rewrite.rewriter import Rewritten
         from cophy_pg.verify import Judged
         from cophy_pg.workload import Record, Workload
 
@@ -120,7 +151,7 @@ class Worths(unittest.TestCase):
                 after={it.number: {"Total Cost": it.after} for it in found},
                 without={1: {it.number: it.before or 0.0 for it in found}},
             )
-            records = [Record(it, cast(Any, None), [at]) for at, it in enumerate(given, 1)]
+            records = [Record(it, Rewritten(), [at]) for at, it in enumerate(given, 1)]
             workload, none = Workload(records, [(it.text, 1) for it in given]), Prices({}, 1000)
             parts = (cast(Any, None), workload, Advice(9, []), cast(Any, None), Judged(found, [], []), plans)
             result = Result(*parts, (none, none, none), [], "", {}, {})

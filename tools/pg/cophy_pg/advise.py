@@ -12,8 +12,10 @@ from typing import Any
 from cophy_lint.checks import catalogue_remarks, lines, workload_remarks
 from cophy_text import files
 from cophy_text.answers import Advice, Prices, read_advice, read_candidates
+from cophy_text.shown import percent, space
 from cophy_pg import export, folder, inputs, unlimited
 from cophy_pg.advise_words import parser_of
+from cophy_pg.amounts import Share
 from cophy_pg.catalogue import read_schema
 from cophy_pg.choice import Choice
 from cophy_pg.closing import ending, made_of
@@ -24,6 +26,8 @@ from cophy_pg.folder import Folder
 from cophy_pg.folding import Folding
 from cophy_pg.included import searched_columns
 from cophy_pg.expression_hints import Hint, hints_of
+from cophy_pg.local import connect_as_set_up
+from cophy_pg.maker import maker_of
 from cophy_pg.making import ddl_text, in_order
 from cophy_pg.outcomes import Verdict
 from cophy_pg.overview import gain_of, lines_of, named
@@ -44,7 +48,7 @@ from cophy_pg.schema import Schema
 from cophy_pg.searches import CUT, Rules, Searches, listed_in
 from cophy_pg.selection import ran_once, selection_of
 from cophy_pg.server import Server, connected, reading, version_of
-from cophy_pg.sizes import stored_size
+from cophy_pg.sizes import SIZE, stored_size
 from cophy_pg.snapshots import taken_of
 from cophy_pg.statistics import Found
 from cophy_pg.steps import Steps
@@ -73,6 +77,12 @@ def advise(words: argparse.Namespace) -> int:
     given = [words.sql, words.log, words.since, words.rules]
     for name in (it for it in given if it):
         files.read(name)
+    if words.database:
+        if words.dsn:
+            raise inputs.NoInput("--dsn: it names the database")
+        connect_as_set_up(words.database)
+    if isinstance(words.budget, Share):
+        words.budget = share_of_tables(words)
     kept = Folder.made(words.folder)
     files.check([kept.path(it) for it in (folder.CATALOGUE, folder.DATABASE, folder.WORKLOAD, folder.RESULT)], given)
     with kept.unless_empty(), unless_broken_off(words, kept):
@@ -81,7 +91,8 @@ def advise(words: argparse.Namespace) -> int:
         details = "\n".join([*lines_of(document), *ending(document, kept)]) + "\n"
         text = details if words.verbose else "\n".join(verdict(document, kept)) + "\n"
         result = json.dumps(document, indent=2) + "\n"
-        kept.write({folder.RESULT: result, folder.SUMMARY: text, folder.DETAILS: details})
+        maker = {folder.MAKE: it} if (it := maker_of(document)) else {}
+        kept.write({folder.RESULT: result, folder.SUMMARY: text, folder.DETAILS: details, **maker})
     try:
         kept.write({folder.REPORT: page_of(kept)})
     except NoReport as fault:
@@ -89,6 +100,14 @@ def advise(words: argparse.Namespace) -> int:
     if not words.is_silent:
         print(json.dumps(document, indent=2) if words.json else text, end="\n" if words.json else "")
     return 0 if made_of(document) else NOTHING
+
+
+def share_of_tables(words: argparse.Namespace) -> int:
+    """The pages of a share of the tables, which is told."""
+    with connected(words.dsn, words.timeout) as server, reading(server):
+        pages: int = words.budget.pages(int(server.value(SIZE)))
+    say(f"the budget is {space(pages)}, {percent(words.budget.percent)} of the tables; --budget takes another")
+    return pages
 
 
 class Run:
@@ -150,7 +169,9 @@ class Run:
         """Takes away what an earlier call left in the folder."""
         files_of_steps = (folder.ADVICE, folder.CERTIFICATE, folder.CHECK, folder.VERIFY, folder.KEPT, folder.DDL)
         self.folder.clear(*files_of_steps, folder.PLANS, folder.SUMMARY, folder.RESULT, folder.REPORT)
-        self.folder.clear(folder.RULES, folder.RULED, folder.CURVE, folder.DETAILS, folder.UNFINISHED, folder.EFFECT)
+        self.folder.clear(
+            folder.RULES, folder.RULED, folder.CURVE, folder.DETAILS, folder.UNFINISHED, folder.EFFECT, folder.MAKE
+        )
 
     def _warnings(self, workload: Workload, prices: Prices) -> list[str]:
         """What to warn of, by prices without picks. In a file of SQL a statement has the weight that it was given."""

@@ -4,7 +4,7 @@ from __future__ import annotations
 import argparse
 
 from cophy_pg import export, unlimited
-from cophy_pg.amounts import amount, whole
+from cophy_pg.amounts import FIFTH, budget, whole
 from cophy_pg.clustering import add_clustering
 from cophy_pg.planning import MICROSECONDS
 from cophy_pg.program import add_program
@@ -24,6 +24,13 @@ def parser_of(commands: argparse._SubParsersAction[argparse.ArgumentParser]) -> 
         epilog="The status is 0 where there are indexes to make, 3 where none is recommended; 1 says that it couldn't be done, "
         "2 that the words are faulty.",
     )
+    parser.add_argument(
+        "database",
+        metavar="DATABASE",
+        nargs="?",
+        help="the database that setup was called for: its role and this machine's server are taken, unless the environment "
+        "names others (PGDATABASE)",
+    )
     add_words(parser)
     return parser
 
@@ -32,10 +39,10 @@ def add_words(parser: argparse.ArgumentParser) -> None:
     """The words that say what to advise on, and how."""
     parser.add_argument(
         "--budget",
-        type=amount,
-        required=True,
+        type=budget,
+        default=FIFTH,
         metavar="SPACE",
-        help="what the indexes may take as PostgreSQL stores them: 2GB, 500MB, or pages",
+        help="what the indexes may take as PostgreSQL stores them: 2GB, 500MB, pages, or 20%% of the tables, as without it",
     )
     parser.add_argument("--folder", metavar="DIR", help="where all files go (cophy-advice- and the time)")
     _add_limits(parser)

@@ -1,7 +1,6 @@
 """The end of what `advise` prints: what the workload costs, what the bound says, and who makes the indexes how."""
 from __future__ import annotations
 
-import os
 import pwd
 import shlex
 from contextlib import suppress
@@ -12,7 +11,6 @@ from cophy_text.shown import grouped, share, space
 from cophy_pg import folder
 from cophy_pg.folder import Folder
 from cophy_pg.guesses import seconds_of
-from cophy_pg.server import quoted_name
 from cophy_pg.speed import duration
 from cophy_pg.trust import DISTRUST, WHO
 
@@ -170,41 +168,21 @@ def commands_of(document: dict[str, Any], script: str) -> list[str]:
 def command_of(document: dict[str, Any], script: str, owner: str, more: str = "") -> str:
     """What an owner of tables runs. One that is a user of this machine needs no password."""
     who, keys = _plain(owner), [("port", "-p"), ("database", "-d")]
-    is_user = _is_user(who) and _is_here(document)
-    given = [it for it in ([] if is_user else [("host", "-h")]) + keys if document.get(it[0])]
+    is_known = is_user(who) and is_here(document)
+    given = [it for it in ([] if is_known else [("host", "-h")]) + keys if document.get(it[0])]
     at = [word for key, word in given for word in (word, _plain(str(document[key])))]
-    if is_user:
+    if is_known:
         return f"{shlex.join(['sudo', '-u', who, 'psql', '-X', *at])}{more} < {shlex.quote(script)}"
     return f"{shlex.join(['psql', '-X', *at, '-U', who])}{more} -f {shlex.quote(script)}"
 
 
-def member_of(document: dict[str, Any], script: str) -> list[str]:
-    """What who doesn't know the password of the one owner may run, as often as he likes: a role of his own on this machine,
-    which becomes a member of it, makes them. Nothing where no password is asked for."""
-    owners, host = document["owners"], str(document.get("host") or "")
-    if len(owners) != 1 or not _is_here(document) or _is_user(owner := _plain(owners[0])):
-        return []
-    ours, socket = pwd.getpwuid(os.geteuid()).pw_name, ["-h", host] * host.startswith("/")
-    at, role, member = [*socket, "-p", str(document.get("port") or 5432)], quoted_name(owner), quoted_name(ours)
-    # The second one alone says whether psql succeeds.
-    made = shlex.join(["-c", f"CREATE USER {member}", "-c", f"GRANT {role} TO {member}"])
-    # What the shell was told for the advisor's role names another one.
-    told = "PGUSER=" if socket else "PGHOST= PGUSER="
-    more = " -v all=1" if all(it.get("caveat") for _, it in rows_of(document)) else ""
-    words = shlex.join(["psql", "-X", *at, _plain(str(document["database"]))])
-    return [
-        f"or without password, {ours} joins {owner} until REVOKE {role} FROM {member}:",
-        f"sudo -u postgres psql {shlex.join(at)} {made} && {told} {words}{more} -f {shlex.quote(script)}",
-    ]
-
-
-def _is_here(document: dict[str, Any]) -> bool:
+def is_here(document: dict[str, Any]) -> bool:
     """Whether the server is on this machine."""
     host = str(document.get("host") or "")
     return host in HERE or host.startswith("/")
 
 
-def _is_user(name: str) -> bool:
+def is_user(name: str) -> bool:
     """Whether this machine has a user of that name."""
     with suppress(KeyError, ValueError):
         return bool(pwd.getpwnam(name))

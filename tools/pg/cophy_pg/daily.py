@@ -36,7 +36,7 @@ def add_daily(commands: argparse._SubParsersAction[argparse.ArgumentParser]) -> 
     )
     parser.add_argument("--keep", type=count, default=KEPT, metavar="N", help=f"how many folders stay ({KEPT})")
     add_words(parser)
-    parser.set_defaults(run=daily)
+    parser.set_defaults(run=daily, database=None)
 
 
 def daily(words: argparse.Namespace) -> int:

@@ -10,13 +10,15 @@ from cophy_text.files import NoFile
 from cophy_text.shown import short
 from cophy_pg import folder, inputs
 from cophy_pg.changes import Found
-from cophy_pg.closing import commands_of, doubts_of, made_hints, recommended_of, time_falls
+from cophy_pg.closing import doubts_of, made_hints, recommended_of, time_falls
 from cophy_pg.effect_text import lines_of
 from cophy_pg.folder import Folder
 from cophy_pg.guesses import seconds_of
 from cophy_pg.included import searched_columns
 from cophy_pg.inputs import NoInput
-from cophy_pg.measured import Measured, a_call, given_of, measured_since
+from cophy_pg.local import connect_as_set_up, is_told_where
+from cophy_pg.maker import made_by
+from cophy_pg.measured import Measured, a_call, called_since, given_of, is_slower, told_of, writes_of
 from cophy_pg.outcomes import Verdict
 from cophy_pg.overview import named
 from cophy_pg.paths import Paths, read_paths
@@ -57,10 +59,11 @@ def add_effect(commands: argparse._SubParsersAction[argparse.ArgumentParser]) ->
         description="Says which indexes of a folder's script are there and how often the server has used each, what its "
         "planner thinks that the statements cost now, and how long a call of those that the indexes help takes since, beside "
         "before, as pg_stat_statements counts it. No statement is executed and nothing is made. Once all indexes are there, the "
-        "folder keeps what was counted until then in effect.json, so that later calls say what came after it.",
+        "folder keeps what was counted until then in effect.json, so that later calls say what came after it. It connects as advise "
+        "did where nothing says another database.",
         epilog="The status is 0 where all indexes that are recommended are there, 3 where one isn't.",
     )
-    parser.add_argument("folder", metavar="FOLDER", help="the folder of advise")
+    parser.add_argument("folder", metavar="FOLDER", nargs="?", help="the folder of advise (the last one here)")
     parser.add_argument("--json", action="store_true", help="print JSON instead")
     add_connection(parser)
     add_trust(parser)
@@ -69,8 +72,11 @@ def add_effect(commands: argparse._SubParsersAction[argparse.ArgumentParser]) ->
 
 def effect(words: argparse.Namespace) -> int:
     """Prints what came of the indexes."""
-    kept, advised = Folder(words.folder), Found.of(words.folder)
+    kept = Folder(words.folder) if words.folder else Folder.last()
+    advised = Found.of(kept.name)
     document, schema = advised.document, advised.schema
+    if not is_told_where(words.dsn):
+        connect_as_set_up(document["database"], document.get("host") or "", document.get("port") or 0)
     if document["options"]["include"]:
         schema.searched = searched_columns(kept.read(folder.WORKLOAD))
     with connected(words.dsn, words.timeout) as server:
@@ -143,7 +149,8 @@ def _counted(server: Server, given: Given, is_trusted: bool) -> dict[str, Any] |
         begins = {"indexes": folder.EFFECT} if given.is_all_there() and kept.has(folder.EFFECT) else {}
         for begin, name in (begins | {"advice": folder.SNAPSHOT}).items():
             then = read_snapshot(kept.path(name))
-            if found := measured_since(now, listed, then, given.document, given.paths, there):
+            found = called_since(now, listed, then, given.document, given.paths, there)
+            if told_of(found):
                 break
     except NoInput as fault:
         say(f"what was counted is left out: {fault}")
@@ -166,26 +173,33 @@ def _keep(kept: Folder, now: Snapshot, is_all_there: bool) -> None:
 
 
 def _times(begin: str, found: list[Measured]) -> dict[str, Any]:
-    """What was counted since a begin, of each statement and of all."""
-    before, after = a_call(found)
+    """What was counted since a begin: of each statement that is told, of these together, of writes, and of all."""
+    told = told_of(found)
     statements = [
         {
             "numbers": it.numbers,
             "sql": short(it.sql),
             "helped": it.is_helped,
+            "slower": is_slower(it),
             "calls": it.calls,
             "before": round(it.before, 6),
             "since": round(it.since, 6),
         }
-        for it in found
+        for it in told
     ]
-    times = {"before": round(before, 6), "since": round(after, 6)}
-    return {"begin": begin, "calls": sum(it.calls for it in found), **times, "statements": statements}
+    others = {"writes": _together(writes_of(found)), "all": _together(found)}
+    return {"begin": begin, **_together(told), **others, "statements": statements}
+
+
+def _together(found: list[Measured]) -> dict[str, Any]:
+    """How often some statements were called since, and what a call took before and since."""
+    before, after = a_call(found)
+    return {"calls": sum(it.calls for it in found), "before": round(before, 6), "since": round(after, 6)}
 
 
 def described(given: Given) -> dict[str, Any]:
     """How the indexes stand, as the begin of a document of JSON whose form is `effect.schema.json`."""
-    asked, script = given.asked(), given.kept.path(folder.DDL)
+    asked = given.asked()
     return {
         "version": 1,
         "database": given.document["database"],
@@ -203,5 +217,5 @@ def described(given: Given) -> dict[str, Any]:
             for it in given.stands
             if it in asked or it.is_there
         ],
-        "make": [] if given.is_all_there() else commands_of(given.document, script),
+        "make": [] if given.is_all_there() else made_by(given.document, given.kept),
     }

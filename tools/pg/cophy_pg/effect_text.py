@@ -4,7 +4,6 @@ from __future__ import annotations
 from typing import Any
 
 from cophy_text.shown import about, grouped, percent, short
-from cophy_pg.measured import SLOWER
 from cophy_pg.standing import THERE
 
 MOST_LINES, MOST_INDEXES, MOST_STATEMENTS, MOST_SLOWER, LEAST = 20, 12, 10, 3, 4
@@ -40,7 +39,8 @@ def _by_clock(found: dict[str, Any]) -> list[str]:
         again = "calls are counted from now on: call this again later."
         return [f"No statement that they help was called since; {again}"]
     lines = [f"{_begin(counted)} took {_ms(counted['since'])} ms a call, {_ms(counted['before'])} before."]
-    if slower := sum(map(_is_slower, counted["statements"])):
+    lines += [_of_all(counted)]
+    if slower := sum(it["slower"] for it in counted["statements"]):
         are = "statement is" if slower == 1 else "statements are"
         lines += [f"{slower} {are} slower by more than half: look at EXPLAIN ANALYZE of what is marked with a !."]
     if counted["begin"] == "advice":
@@ -56,12 +56,8 @@ def _by_planner(found: dict[str, Any]) -> list[str]:
         return []
     part = f"{cost['statements']} of {cost['of']}" if cost["statements"] < cost["of"] else "the"
     if time := cost["time"]:
-        saved, said, what, shown = (
-            time["saved"],
-            time["advised"],
-            "would take {} of the time measured for queries",
-            about,
-        )
+        saved, said, shown = time["saved"], time["advised"], about
+        what = "would take {} of the time measured for queries"
     else:
         saved = 100 * (cost["before"] - cost["now"]) / cost["before"] if cost["before"] else 0.0
         said, what, shown = 100 - cost["advised"], "cost {}", percent
@@ -71,8 +67,13 @@ def _by_planner(found: dict[str, Any]) -> list[str]:
     return [f"By the server's planner {part} statements {changed}; the advice said {shown(said)}{with_all}."]
 
 
-def _is_slower(it: dict[str, Any]) -> bool:
-    return bool(it["since"] > SLOWER * it["before"])
+def _of_all(counted: dict[str, Any]) -> str:
+    """The measured total of all statements that were called since, beside what it was before, and what writes take."""
+    every, writes = counted["all"], counted["writes"]
+    took, was = (_seconds(every["calls"] * every[it]) for it in ("since", "before"))
+    text = f"All {grouped(every['calls'])} calls took {took} s, at the times before {was}"
+    told = f"; writes {_ms(writes['since'])} ms a call, {_ms(writes['before'])} before" if writes["calls"] else ""
+    return f"{text}{told}."
 
 
 def _there(indexes: list[dict[str, Any]]) -> str:
@@ -122,7 +123,7 @@ def _statements(every: list[dict[str, Any]], most: int) -> list[str]:
     shown = [*others[: most - len(slower)], *slower]
     lines = ["", f"{'ms before':>10} {'ms since':>10} {'calls':>11}  statement"]
     lines += [
-        f"{_ms(it['before']):>10} {_ms(it['since']):>10} {grouped(it['calls']):>11} {'!' if _is_slower(it) else ' '}{it['sql']}"
+        f"{_ms(it['before']):>10} {_ms(it['since']):>10} {grouped(it['calls']):>11} {'!' if it['slower'] else ' '}{it['sql']}"
         for it in shown
     ]
     more = len(every) - len(shown)
@@ -138,3 +139,8 @@ def _rest(found: dict[str, Any]) -> list[str]:
 def _ms(time: float) -> str:
     """Milliseconds in digits that say something."""
     return f"{time:,.1f}" if time >= 1 else f"{time:.2f}" if time >= 0.1 else f"{time:.3f}"
+
+
+def _seconds(milliseconds: float) -> str:
+    """Seconds, of which a thousandth is seen."""
+    return f"{milliseconds / 1000:,.1f}" if milliseconds >= 10000 else f"{milliseconds / 1000:.3g}"

@@ -2,6 +2,7 @@
 from __future__ import annotations
 
 import os
+import re
 import stat
 from collections.abc import Iterator
 from contextlib import contextmanager, suppress
@@ -21,8 +22,12 @@ UNFINISHED = "unfinished.txt"
 DATABASE = "database.toml"
 """The catalogue with all tables, also those that no statement names."""
 CHANGES, CHANGES_JSON = "changes.txt", "changes.json"
+MAKE = "make.sh"
 EFFECT = "effect.json"
 """A snapshot, as snapshot.json is one, of when `effect` first saw that all indexes stand."""
+
+
+_NAME = re.compile(r"cophy-advice-\d{8}-\d{6}")
 
 
 class Folder:
@@ -44,6 +49,15 @@ class Folder:
         except OSError as fault:
             raise NoFile(f"{shown(given)}: {fault.strerror}") from None
         return Folder(given)
+
+    @staticmethod
+    def last() -> Folder:
+        """The last one here that has such a name and an advice."""
+        here = (it for it in os.listdir() if _NAME.fullmatch(it) and Folder(it).has(RESULT))
+        name = max((it for it in here if os.lstat(it).st_uid == os.geteuid()), default=None)
+        if name is None:
+            raise NoFile("no folder of advise is here: name it")
+        return Folder(name)
 
     @contextmanager
     def unless_empty(self) -> Iterator[Folder]:

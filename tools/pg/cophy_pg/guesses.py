@@ -3,7 +3,7 @@ of which the server thinks far less than our model."""
 from __future__ import annotations
 
 import re
-from collections.abc import Iterable
+from collections.abc import Collection, Iterable
 from typing import Any
 
 from cophy_text.shown import percent, space
@@ -12,6 +12,9 @@ LITTLE = 1.0
 """So many percent of the measured time are little."""
 FEW, FAR = 5.0, 4
 """Where our model saves so many times what the server does, and the server few percent, that is told."""
+COUNTED = "rows of a call"
+"""The change by which a range of parameters holds as many rows as the server counted."""
+_HELD = re.compile(r"(\w+)\s*(?:[<>]=?|BETWEEN)\s*(?:-?\d|'|DATE '|TIMESTAMP ')", re.IGNORECASE)
 _OPEN = re.compile(r"(\w+)\s*(?:[<>]=?|BETWEEN)\s*\?", re.IGNORECASE)
 
 
@@ -19,6 +22,14 @@ def is_guessed(text: str, columns: Iterable[str]) -> bool:
     """Whether a statement of a workload compares one of these columns to an end that isn't known, so that a part of the
     table is taken for the range."""
     return not {it.lower() for it in _OPEN.findall(text)}.isdisjoint(it.lower() for it in columns)
+
+
+def is_counted(text: str, changes: Collection[str], columns: Iterable[str]) -> bool:
+    """Whether a statement of a workload, changed so, compares one of these columns to a range that holds as many rows as the server
+    counted. Its planner takes a default for the parameters that were there."""
+    return COUNTED in changes and not {it.lower() for it in _HELD.findall(text)}.isdisjoint(
+        it.lower() for it in columns
+    )
 
 
 def gains(pick: dict[str, Any]) -> list[dict[str, Any]]:
@@ -72,9 +83,11 @@ def by_server(pick: dict[str, Any]) -> tuple[float, str]:
 
 
 def doubt_of(pick: dict[str, Any]) -> str:
-    """What there is to say of a pick that by the server, of the cost and of the measured time, saves far less than by our model."""
+    """What there is to say of a pick that by the server, of the cost and of the measured time, saves far less than by our model,
+    but where this saves enough by counted rows."""
     ours = max(float(pick["saves"].get(it) or 0.0) for it in ("ours", "measured"))
     saved, what = by_server(pick)
-    if not is_judged(pick) or saved >= FEW or ours < max(LITTLE, FAR * saved):
+    counted = sum(float(it["ours"]) for it in pick.get("changes", ()) if it.get("counted"))
+    if not is_judged(pick) or max(saved, counted) >= FEW or ours < max(LITTLE, FAR * saved):
         return ""
     return f"{what}: probably not worth {space(pick['stored_pages'])}"

@@ -1,7 +1,7 @@
 """What pg_stat_statements counted of a folder's statements since then, beside what it had counted before."""
 from __future__ import annotations
 
-from collections.abc import Collection, Iterable
+from collections.abc import Collection, Iterable, Sequence
 from dataclasses import dataclass
 from typing import Any
 
@@ -10,15 +10,16 @@ from cophy_pg.inputs import Input
 from cophy_pg.paths import Paths
 from cophy_pg.snapshots import Snapshot, digest, since
 
-SLOWER, SEEN = 1.5, 0.01
+SLOWER, SEEN, ENOUGH = 1.5, 0.01, 5
 """A statement got slower that takes so many times as long; one that no index helps is told where it lost such a part of the
-time of all by that."""
+time of all by that. Of fewer calls than this, before or since, it isn't said."""
+WRITES = ("INSERT", "UPDATE", "DELETE", "MERGE")
 
 
 @dataclass(frozen=True)
 class Measured:
     """A statement of the folder: its numbers, whether an index that is there helps it by the advice, its calls since then,
-    and the milliseconds a call before and since."""
+    the milliseconds a call before and since, and its calls before."""
 
     numbers: list[int]
     sql: str
@@ -26,6 +27,7 @@ class Measured:
     calls: int
     before: float
     since: float
+    earlier: int = ENOUGH
 
     @property
     def saved(self) -> float:
@@ -39,11 +41,10 @@ def given_of(statement: dict[str, Any], paths: Paths) -> Input:
     return Input(str(statement["sql"]), statement["calls"], statement["seconds"], role=role, path=paths.of(role))
 
 
-def measured_since(
+def called_since(
     now: Snapshot, listed: list[Input], then: Snapshot, document: dict[str, Any], paths: Paths, there: Collection[int]
 ) -> list[Measured]:
-    """The statements that were called since then and that indexes at these places help, or that got slower; those that
-    saved the most first."""
+    """The statements that were called since then, those that saved the most first. Indexes at these places are there."""
     counted = {digest(it): it for it in since(listed, then, now.begun, now.database)}
     hinted = {
         at
@@ -59,14 +60,24 @@ def measured_since(
             continue
         before, after = 1000 * it["seconds"] / it["calls"], 1000 * (called.seconds or 0.0) / called.calls
         is_helped = bool({*it["picks"]} & {*there} or {*it["numbers"]} & hinted)
-        found.append(Measured(it["numbers"], it["sql"], is_helped, called.calls, before, after))
+        found.append(Measured(it["numbers"], it["sql"], is_helped, called.calls, before, after, it["calls"]))
+    return sorted(found, key=lambda it: (-it.saved, it.numbers))
+
+
+def told_of(found: Sequence[Measured]) -> list[Measured]:
+    """Those of them that an index helps, or that got slower."""
     whole = sum(it.calls * it.since for it in found)
-    shown = [it for it in found if it.is_helped or _is_slower(it, whole)]
-    return sorted(shown, key=lambda it: (-it.saved, it.numbers))
+    return [it for it in found if it.is_helped or is_slower(it) and -it.saved > SEEN * whole]
 
 
-def _is_slower(it: Measured, whole: float) -> bool:
-    return it.since > SLOWER * it.before and -it.saved > SEEN * whole
+def writes_of(found: Sequence[Measured]) -> list[Measured]:
+    """Those of them that write."""
+    return [it for it in found if it.sql.lstrip("( \n\t").upper().startswith(WRITES)]
+
+
+def is_slower(it: Measured) -> bool:
+    """Whether it takes much longer, by enough calls to say so."""
+    return it.since > SLOWER * it.before and min(it.calls, it.earlier) >= ENOUGH
 
 
 def a_call(listed: Iterable[Measured]) -> tuple[float, float]:

@@ -6,9 +6,10 @@ import functools
 import sys
 import time
 
+from cophy_pg.speed import duration
 
-SOON, EVERY = 1.0, 30.0
-"""A step is told after so many seconds, and then so often how far it is."""
+SOON, EVERY, LONG = 1.0, 30.0, 10.0
+"""A step is told after so many seconds, and then so often how far it is; that so many are left is told."""
 
 
 class Progress:
@@ -23,6 +24,11 @@ class Progress:
         if now - self.told > (SOON if self.is_new else EVERY):
             self.told, self.is_new = now, False
             say(f"{text}, {now - self.begun:.0f} s so far")
+
+    def tell_rest(self, text: str, seconds: float) -> None:
+        """Tells about how long all that is left takes, where it is long enough to be waited for."""
+        if seconds >= LONG:
+            say(f"{text}: about {duration(seconds)} more")
 
     def still(self, text: str) -> None:
         """Tells how far that has come which was told last."""

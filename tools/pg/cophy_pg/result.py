@@ -12,7 +12,7 @@ from cophy_text.shown import short
 from cophy_pg.choice import Choice
 from cophy_pg.ddl import Made, create, taken_names
 from cophy_pg.expression_hints import Hint
-from cophy_pg.guesses import is_guessed, saved_of, whole_of
+from cophy_pg.guesses import is_counted, is_guessed, saved_of, whole_of
 from cophy_pg.hints import Found, Room, documents_of
 from cophy_pg.outcomes import ORDINARY, Outcome
 from cophy_pg.plans import Plans
@@ -244,6 +244,7 @@ class Result:
         for verdict in self.judged.verdicts:
             ours = sum(reason.changes.get(it, 0) for it in verdict.written)
             server = verdict.calls * self.plans.saved(reason.pick.number, verdict)
+            changes = self.workload.records[verdict.number - 1].found.changes
             change = found.setdefault(
                 tuple(verdict.written),
                 {
@@ -252,6 +253,7 @@ class Result:
                     "calls": 0,
                     "seconds": 0.0,
                     "guess": any(is_guessed(texts[it - 1], reason.pick.columns) for it in verdict.written),
+                    "counted": any(is_counted(texts[it - 1], changes, reason.pick.columns) for it in verdict.written),
                     "ours": ours,
                     "server": 0.0,
                 },

@@ -58,7 +58,9 @@ def _text(
         ]
     names = ",".join(written_text(_passed(it, it.place in unadvised)) for it in listed)
     passed = [f"EXECUTE cophy_passed (ARRAY[{names}]);"] * bool(listed)
-    return _marked("\n".join([*lines, "", STOP, TELL, *passed, "\\echo done", ""]))
+    # Behind it stands what ends a membership of the owner.
+    done = ":done" if listed else "done"
+    return _marked("\n".join([*lines, "", STOP, TELL, *passed, f"\\echo {done}", ""]))
 
 
 def _passed(made: Made, is_unadvised: bool) -> str:

@@ -143,27 +143,29 @@ WHERE i.indisclustered AND n.nspname = $1 AND t.relname = $2 AND x.relname = $3;
 
 
 REFUSE = r"""WITH RECURSIVE touched AS (
-    SELECT c.oid FROM pg_class c JOIN pg_namespace n ON n.oid = c.relnamespace
-    WHERE (n.nspname::text, c.relname::text) IN (SELECT schema, name FROM (VALUES NAMES) asked (place, schema, name)
-        WHERE place <> ALL (string_to_array(replace(:'without', ' ', ''), ',')))
-    UNION SELECT i.inhrelid FROM pg_inherits i JOIN touched t ON i.inhparent = t.oid
+    SELECT c.oid FROM pg_class c JOIN pg_namespace n ON n.oid=c.relnamespace
+    WHERE (n.nspname::text,c.relname::text) IN (SELECT schema,name FROM (VALUES NAMES) asked(place,schema,name)
+        WHERE place <> ALL (string_to_array(replace(:'without',' ',''),',')))
+    UNION SELECT i.inhrelid FROM pg_inherits i JOIN touched t ON i.inhparent=t.oid
 ), owners AS (
-    SELECT DISTINCT c.relowner AS oid, pg_has_role(current_user, c.relowner, 'USAGE') AS is_own
-    FROM touched t JOIN pg_class c ON c.oid = t.oid
+    SELECT DISTINCT c.relowner AS oid, pg_has_role(current_user,c.relowner,'USAGE') AS is_own
+    FROM touched t JOIN pg_class c ON c.oid=t.oid
 ), names AS (
-    SELECT string_agg(shown, ' and ') AS owners, string_agg(shown, ' or ') FILTER (WHERE NOT rolsuper) AS others,
-        bool_and(is_own) AS is_owner
-    FROM owners o JOIN (SELECT oid, rolsuper, regexp_replace(quote_ident(rolname), '[^ -~]', '?', 'g') AS shown FROM pg_roles) r
-        ON r.oid = o.oid
+    SELECT string_agg(shown,' and ') AS owners, string_agg(shown,' or ') FILTER (WHERE NOT rolsuper) AS others,
+        bool_and(is_own) AS is_owner, string_agg('REVOKE '||shown||' FROM '||quote_ident(session_user),'; ') FILTER (WHERE NOT :{?joined} AND r.oid IN (
+        SELECT roleid FROM pg_auth_members WHERE member=to_regrole(quote_ident(session_user)))) AS leave
+    FROM owners o JOIN (SELECT oid,rolsuper,regexp_replace(quote_ident(rolname),'[^ -~]','?','g') AS shown FROM pg_roles) r
+        ON r.oid=o.oid
 )
-SELECT coalesce(owners, '') AS owners, coalesce(is_owner, true) AS is_owner, coalesce(
+SELECT coalesce(owners,'') AS owners, coalesce(is_owner,true) AS is_owner, 'done'||coalesce(
+    '; joined the owner for this alone? '||leave,'') AS done, coalesce(
     'run it as ' || others || ' (psql -X -U), or as a role that is a member of it (GRANT)',
     'disable the event trigger, or give its function to a superuser') AS todo,
     EXISTS (SELECT FROM pg_roles o WHERE NOT o.rolsuper AND o.rolname <> session_user AND (
     o.oid IN (SELECT oid FROM owners)
-    OR EXISTS (SELECT FROM pg_event_trigger e JOIN pg_proc p ON p.oid = e.evtfoid WHERE p.proowner = o.oid AND e.evtenabled <> 'D'))
+    OR EXISTS (SELECT FROM pg_event_trigger e JOIN pg_proc p ON p.oid=e.evtfoid WHERE p.proowner = o.oid AND e.evtenabled <> 'D'))
     AND EXISTS (SELECT FROM pg_roles r WHERE r.rolsuper
-        AND (pg_has_role(session_user, r.oid, 'MEMBER') OR pg_has_role(current_user, r.oid, 'MEMBER')))) AS is_others
+        AND (pg_has_role(session_user,r.oid,'MEMBER') OR pg_has_role(current_user,r.oid,'MEMBER')))) AS is_others
 FROM names \gset
 \if :is_others
     \warn 'To make these indexes' :todo

@@ -33,6 +33,8 @@ MOST_SEARCHES = MOST_TRIES + len(FURTHER) + 1
 """So often is searched in a round: for what fills the budget, and for what exchanges made of that."""
 EXCHANGING, FIRST_SECONDS, LATER_SECONDS = "comparing with other sets of indexes", 30.0, 8.0
 """Picks are exchanged for so long in the first round, or for as long as was searched before, and so long in each later one."""
+LIKE_SEARCHES, SLOW = 40, 0.2
+"""After the first search all takes about as long as so many, and where it took so many seconds, exchanges take all their time."""
 CUT = "picks were exchanged for others for a limited time only, so others may cost less in the same space"
 POINTS, FIRST = 3, 3
 """How many points a curve has where it bends, and where its first picks come in, beside those that were searched for anyhow."""
@@ -118,6 +120,8 @@ class Searches:
     """Whether the first round was searched."""
     is_cut: bool = False
     """Whether there wasn't time for all exchanges."""
+    is_told: bool = False
+    """Whether it was told how long all takes."""
 
     def filling(self, schema: Schema, rules: Rules) -> tuple[Advice, str]:
         """The advice that fills the budget as PostgreSQL stores it, and the rules that it is found under: where other picks cost
@@ -128,7 +132,9 @@ class Searches:
             self.kept.write({folder.RULES: lines})
 
         def advised(budget: int) -> Advice:
+            since = self.clock()
             tried.append(self._at(budget, lines))
+            self._tell_rest(self.clock() - since)
             return tried[-1]
 
         found = filled(self.asked, advised, lambda it: stored_size(schema, it.picks))
@@ -146,6 +152,13 @@ class Searches:
             return self.made_of(better, rules)
         except NoCommand:
             return found, lines
+
+    def _tell_rest(self, seconds: float) -> None:
+        """Tells once, by how long the first search took, about how long all other steps take."""
+        if not self.is_told:
+            self.is_told = True
+            rest = LIKE_SEARCHES * seconds + FIRST_SECONDS * min(1.0, seconds / SLOW)
+            self.progress.tell_rest("by the first search", rest)
 
     def made_of(self, chosen: Chosen, rules: Rules) -> tuple[Advice, str]:
         """The advice that has just these picks, and the rules that it is found under."""

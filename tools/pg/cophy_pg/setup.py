@@ -3,7 +3,6 @@ from __future__ import annotations
 
 import argparse
 import base64
-import getpass
 import hashlib
 import hmac
 import os
@@ -21,17 +20,15 @@ from cophy_pg.no_connection import failed
 from cophy_pg.picks import home_of
 from cophy_pg.export import HIDDEN
 from cophy_pg.inputs import ADVISOR, NoInput, from_server, tell_short
+from cophy_pg.local import LOCAL, PORT, port_of, run_as
 from cophy_pg.progress import say
 from cophy_pg.server import OWN, UNKNOWN, Server, ServerFault, connected, reading, reason
 
 SCRIPT = Path(__file__).resolve().parent / "advisor_role.sql"
 ROUNDS = 4096
-LOCAL = ("localhost", "127.0.0.1", "::1")
 HYPOPG = (
     "the extension hypopg is missing: install it (apt-get install postgresql-NN-hypopg, NN being the server's version)"
 )
-_SIZE = f"""SELECT coalesce(sum(pg_relation_size(c.oid)), 0)::int8 FROM pg_class c JOIN pg_namespace n ON n.oid = c.relnamespace
-WHERE c.relkind IN ('r', 'm') AND n.nspname NOT IN ('pg_catalog', 'information_schema') AND n.nspname !~ '^pg_toast'"""
 
 
 def add_setup(commands: argparse._SubParsersAction[argparse.ArgumentParser]) -> None:
@@ -58,17 +55,20 @@ def setup(words: argparse.Namespace) -> int:
     database = words.database or os.environ.get("PGDATABASE")
     if not database:
         raise NoInput("name the database: cophy-pg setup DATABASE")
-    host, port = os.environ.get("PGHOST") or "localhost", os.environ.get("PGPORT") or "5432"
+    host = os.environ.get("PGHOST") or "localhost"
+    port = port_of(host)
     superuser = shlex.split(words.psql) if words.psql else _superuser(host, port)
     kept = {it: value for it, value in os.environ.items() if not it.startswith("PG") or words.psql and it != "PGUSER"}
     _run([*superuser, "-d", database], kept, files.read(str(SCRIPT)).decode())
+    given = {it: os.environ[it] for it in ("PGHOST", "PGPORT") if os.environ.get(it)}
+    given |= {"PGUSER": ADVISOR} if os.environ.get("PGUSER") else {}
     os.environ |= {"PGHOST": host, "PGPORT": port, "PGDATABASE": database, "PGUSER": ADVISOR}
     if not _is_known():
         secret = secrets.token_urlsafe(24)
         _run([*superuser, "-d", database], kept, f"{OWN} ALTER ROLE {ADVISOR} PASSWORD '{verifier_of(secret)}';")
         _keep(host, port, secret)
     with connected() as server, reading(server):
-        return _tell(server, database, host, port)
+        return _tell(server, database, given)
 
 
 def _run(superuser: list[str], environment: dict[str, str], text: str) -> None:
@@ -80,7 +80,7 @@ def _run(superuser: list[str], environment: dict[str, str], text: str) -> None:
     except OSError as fault:
         raise NoInput(f"{given[0]}: {fault.strerror}") from None
     if ran.returncode == 2 and reason(Exception(ran.stderr)) != UNKNOWN:
-        host, port = environment.get("PGHOST", ""), os.environ.get("PGPORT") or "5432"
+        host, port = environment.get("PGHOST", ""), os.environ.get("PGPORT") or PORT
         raise NoInput(failed(superuser, environment, port, ran.stderr, host in ("", *LOCAL) or host.startswith("/")))
     sys.stderr.write(ran.stderr)
     if ran.returncode:
@@ -91,10 +91,7 @@ def _superuser(host: str, port: str) -> list[str]:
     """How psql is called as the superuser postgres of this machine."""
     if host not in LOCAL and not host.startswith("/"):
         raise NoInput("the server is on another machine: --psql 'psql -h HOST -U postgres' names its superuser")
-    user = getpass.getuser()
-    known: dict[str, list[str]] = {"postgres": [], "root": ["runuser", "-u", "postgres", "--"]}
-    before = known.get(user, ["sudo", "-u", "postgres"])
-    return [*before, "psql", "-p", port, *(["-h", host] if host.startswith("/") else [])]
+    return [*run_as("postgres"), "psql", "-p", port, *(["-h", host] if host.startswith("/") else [])]
 
 
 def _is_known() -> bool:
@@ -124,8 +121,8 @@ def _keep(host: str, port: str, secret: str) -> None:
     say(f"the password of {ADVISOR} is new, and stands in {files.shown(name)}")
 
 
-def _tell(server: Server, database: str, host: str, port: str) -> int:
-    """Says what is there, what is missing, and the next command."""
+def _tell(server: Server, database: str, given: dict[str, str]) -> int:
+    """Says what is there, what is missing, and the next command, which connects by what was given."""
     count, home = _counted(server), _home(server)
     if not home:
         say(HYPOPG)
@@ -134,10 +131,9 @@ def _tell(server: Server, database: str, host: str, port: str) -> int:
         return 1
     tell_short(server)
     many = f"{counted(count, 'statement')} {'is' if count == 1 else 'are'} counted"
-    print(f"{ADVISOR} may read {database!a}, where hypopg is in schema {home!a} and {many}. Next:")
-    names = {"PGHOST": host, "PGPORT": port if port != "5432" else "", "PGDATABASE": database, "PGUSER": ADVISOR}
-    print("export " + " ".join(f"{name}={shlex.quote(it)}" for name, it in names.items() if it))
-    print(f"{shlex.quote(_called())} advise --budget {fifth_of(int(server.value(_SIZE)))}")
+    print(f"{database!a} can be advised on, {many}. Next:")
+    before = " ".join(f"{name}={shlex.quote(it)}" for name, it in given.items())
+    print(f"{before} {shlex.quote(_called())} advise {shlex.quote(database)}".lstrip())
     return 0
 
 
@@ -161,9 +157,3 @@ def _counted(server: Server) -> int | None:
     with suppress(ServerFault, NoInput), server.savepoint():
         return sum(it.text != HIDDEN for it in from_server(server, lambda _: None))
     return None
-
-
-def fifth_of(size: int) -> str:
-    """A fifth of the bytes of tables, as a budget."""
-    megabytes = max(1, round(size / 5 / 2**20))
-    return f"{round(megabytes / 1024)}GB" if megabytes >= 10240 else f"{megabytes}MB"

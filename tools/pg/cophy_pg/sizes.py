@@ -18,6 +18,9 @@ ALIGNED = {
 }
 """The types of a fixed length that stand at a multiple of so many bytes; others do where they are long."""
 
+SIZE = """SELECT coalesce(sum(pg_relation_size(c.oid)), 0)::int8 FROM pg_class c JOIN pg_namespace n ON n.oid = c.relnamespace
+WHERE c.relkind IN ('r', 'm') AND n.nspname NOT IN ('pg_catalog', 'information_schema') AND n.nspname !~ '^pg_toast'"""
+"""The bytes of all tables."""
 FIXED = frozenset(("bool", "uuid", "char", "macaddr", "macaddr8"))
 """Other types all of whose values have as many bytes."""
 SAMPLED = 30000

@@ -39,6 +39,10 @@ class Steps(Progress):
         else:
             self(text)
 
+    def tell_rest(self, text: str, seconds: float) -> None:
+        if not self.is_quiet:
+            super().tell_rest(text, seconds)
+
     def begin(self, part: str) -> None:
         """Begins a part, whose name stands before all that is told until the next one begins."""
         self.part = part

@@ -1,18 +1,19 @@
 """What `advise` prints: a verdict, the indexes, and the one command that makes them. All else is counted."""
 from __future__ import annotations
 
+import shlex
 from typing import Any
 
 from cophy_text import files
 from cophy_text.answers import counted
-from cophy_text.shown import about, percent, share, space
+from cophy_text.keys import ENTRY
+from cophy_text.shown import about, grouped, percent, share, space
 from cophy_pg import folder
 from cophy_pg.closing import (
     commands_of,
     doubts_of,
     is_hint,
     made_hints,
-    member_of,
     pages_of,
     proof_of,
     recommended_of,
@@ -23,6 +24,7 @@ from cophy_pg.closing import (
 from cophy_pg.folder import Folder
 from cophy_pg.guesses import is_judged, saved_of, seconds_of
 from cophy_pg.hints import ALONE, hints_shown
+from cophy_pg.maker import maker_of
 from cophy_pg.overview import headline, measured, much_skipped, named, part_of, purpose, time_of, unhelped, user_of
 from cophy_pg.recommended import LITTLE
 from cophy_pg.searches import CUT, WELL_FILLED
@@ -38,6 +40,8 @@ MUCH_SPACE, FEW = 0.25, 3
 told; so is that rows don't sum to what all save but for so many percent."""
 MUCH_MORE = 10
 """Where others could save so many percent of the cost more, the index that most of that is of is told."""
+MOST_LONG = 2
+"""So many columns are named whose values may be too long."""
 Row = tuple[int, dict[str, Any]]
 WELL_JUDGED = 0.9
 """Where the statements that were priced have this part of the measured time, that isn't told."""
@@ -56,12 +60,12 @@ def verdict(document: dict[str, Any], kept: Folder) -> list[str]:
     if picks:
         known = [it["build_seconds"] for _, it in advised or picks if it.get("build_seconds") is not None]
         time = f" (about {duration(sum(known))}, reads and writes go on)" if known and not _locks(document) else ""
-        script = kept.path(folder.DDL)
-        commands, member = commands_of(document, script), member_of(document, script)
+        maker = maker_of(document)
+        commands = (
+            [shlex.join(["sh", kept.path(folder.MAKE)])] if maker else commands_of(document, kept.path(folder.DDL))
+        )
         each = ", a line for each owner" * (len(commands) > 1)
-        # There are words left for this where no other line makes them.
-        back = ", -v undo=1 takes them back" * (not member)
-        lines += [f"make them{time}{each}{back}:", *commands, *member, seen_by(kept)]
+        lines += [f"make them{time}{each}, -v undo=1 takes them back:", *commands, seen_by(kept)]
     return lines
 
 
@@ -136,16 +140,23 @@ def _apart(advised: list[Row]) -> tuple[list[Row], list[Row]]:
 
 
 def _notes(advised: list[Row], document: dict[str, Any]) -> list[str]:
-    """The index that takes much of the space for little, and that rows don't sum to what all save, where that is so."""
+    """The index that takes much of the space for little, that rows don't sum to what all save, and which values can't be
+    written any more, where that is so."""
     whole, size, lines = _percent_saved(document), pages_of(document), list[str]()
     little = min(FEW, whole / 10)
     much = [it for it in _apart(advised)[0] if saved_of(it[1]) < little and it[1]["stored_pages"] > MUCH_SPACE * size]
     for at, it in much[:1]:
         what = f"{at} takes {space(it['stored_pages'])} for {percent(saved_of(it))}"
-        lines += [f"{what}: psql -v without={at} leaves it out"]
+        lines += [f"{what}: -v without={at} leaves it out"]
     summed = sum(saved_of(it) for _, it in advised)
     if advised and abs(summed - whole) >= FEW:
-        lines += [f"rows sum to {summed:.0f} %: each says what is lost without that one alone"]
+        why = "others stand in for one that is missing" if summed < whole else "some save only together"
+        lines += [f"rows sum to {summed:.0f} %, not {whole:.0f}: {why}"]
+    long = [str(at) for at, it in advised if it.get("long")]
+    columns = sorted({f"{it['table']}.{name}" for _, it in advised for name in it.get("long", [])})
+    if long:
+        where = f"{', '.join(columns[:MOST_LONG])}{' ..' * (len(columns) > MOST_LONG)}"
+        lines += [f"INSERTs of over {grouped(ENTRY)} bytes in {where} will fail (index {', '.join(long)})"]
     return lines + _held_back(document)
 
 
@@ -169,7 +180,7 @@ def _together(little: list[Row]) -> str:
     """Picks that save little with what they take and save together, and how the script passes over them."""
     begin = _begin(f"{little[0][0]}-{little[-1][0]}.", sum(it["stored_pages"] for _, it in little))
     what = f"{len(little)} indexes that save less than {LITTLE} % each"
-    passed = f"psql -v without={','.join(str(at) for at, _ in little)} leaves them out"
+    passed = f"-v without={','.join(str(at) for at, _ in little)} leaves them out"
     return f"{begin}  {percent(sum(saved_of(it) for _, it in little)):>7}  {what}: {passed}"
 
 
@@ -190,7 +201,7 @@ def _unadvised(document: dict[str, Any]) -> list[str]:
     more = document["stored_pages"] - recommended_of(document)["stored_pages"] + pages_of(document)
     over = more - document["asked_pages"]
     too_much = f", with which all are {space(over)} over the budget" if over > 0 else ""
-    return [f"{what} ({size}{too_much}; psql -v all=1 makes {'it' if count == 1 else 'them'}{' too' * made})"]
+    return [f"{what} ({size}{too_much}; -v all=1 makes {'it' if count == 1 else 'them'}{' too' * made})"]
 
 
 def _rest(document: dict[str, Any], kept: Folder) -> list[str]:
