@@ -2,6 +2,8 @@
 from __future__ import annotations
 
 import getpass
+import os
+import signal
 import subprocess
 import unittest
 from pathlib import Path
@@ -33,7 +35,23 @@ class Text(unittest.TestCase):
             {"picks": []},
         ):
             self.assertEqual(maker_of(document(**more)), "", more)
-        self.assertIn("for that time a member of boss", maker_of(document()))
+        self.assertIn("for that time a role and a member of boss", maker_of(document()))
+        user = mock.Mock(pw_name="postgres")
+        with mock.patch("pwd.getpwuid", return_value=user), mock.patch("cophy_pg.maker.is_user", return_value=False):
+            self.assertEqual(maker_of(document()), "", "its role is a superuser, which the script refuses")
+
+    def test_a_database_is_no_connection(self) -> None:
+        from cophy_pg.closing import command_of
+        from cophy_pg.maker import maker_of
+
+        for name, word in (
+            ("host=it's", """ -d 'dbname='"'"'host=it\\'"'"'s'"'"'' """),
+            ("postgres://x", """ -d 'dbname='"'"'postgres://x'"'"'' """),
+            ("a b", " -d 'a b' "),
+        ):
+            given = document(database=name)
+            self.assertIn(word, maker_of(given))
+            self.assertIn(word, command_of(given, "indexes.sql", "boss"))
 
     def test_who_is_a_user_here_runs_it(self) -> None:
         from cophy_pg.maker import maker_of
@@ -58,42 +76,98 @@ class Member(InFolder):
             (self.folder / name).chmod(0o755)
         (self.folder / "indexes.sql").write_text(MADE)
 
-    def made(self, owner: str, *words: str) -> subprocess.CompletedProcess[str]:
-        """What the script of an owner does."""
+    def begun(self, owner: str, *words: str, shell: str = "sh", **more: str) -> subprocess.Popen[str]:
+        """The script of an owner, which runs."""
         from cophy_pg.maker import maker_of
 
         given = document(host=str(self.server.folder), port=5432, database="postgres", owners=[owner])
         (self.folder / "make.sh").write_text(maker_of(given))
         path = f"{self.folder}:{Path(str(program('psql'))).parent}:/usr/bin:/bin"
-        how = {"env": {"PATH": path, "PGUSER": "nobody"}, "capture_output": True, "text": True, "timeout": LONG}
-        return subprocess.run(["sh", str(self.folder / "make.sh"), *words], check=False, **how)  # type: ignore[call-overload]
+        how = {"env": {"PATH": path, "PGUSER": "nobody"} | more, "text": True, "start_new_session": True}
+        pipes = {"stdout": subprocess.PIPE, "stderr": subprocess.PIPE}
+        called = [shell, str(self.folder / "make.sh"), *words]
+        return subprocess.Popen(called, **how, **pipes)  # type: ignore[call-overload, no-any-return]
 
-    def is_member(self, owner: str) -> str:
-        who = f"SELECT count(*) FROM pg_auth_members m JOIN pg_roles r ON r.oid = roleid AND rolname = $${owner}$$"
-        return self.server.value(who)
+    def made(self, owner: str, *words: str, **more: str) -> subprocess.CompletedProcess[str]:
+        """What the script of an owner does."""
+        begun = self.begun(owner, *words, **more)
+        out, err = begun.communicate(timeout=LONG)
+        return subprocess.CompletedProcess(begun.args, begun.returncode, out, err)
 
-    def test_it_is_a_member_no_longer_unless_it_was_one(self) -> None:
-        for owner in ("boss", "b\"o's\\s $(x)"):
+    def members(self) -> str:
+        """How many are members of roles that aren't PostgreSQL's own."""
+        return self.server.value("SELECT count(*) FROM pg_auth_members WHERE roleid > 16000")
+
+    def is_role(self) -> str:
+        """Whether there is a role of ours."""
+        return self.server.value(f"SELECT count(*) FROM pg_roles WHERE rolname = '{getpass.getuser()}'")
+
+    def test_it_is_a_role_and_a_member_no_longer_unless_it_was_one(self) -> None:
+        for owner in ("boss", "b\"o's\\s $(x)", "b`x`)\\n%s :x \\c", 'c\\0042 FROM d;ALTER ROLE "boss" SUPERUSER;--'):
             quoted = '"' + owner.replace('"', '""') + '"'
             self.server.psql(f"CREATE ROLE {quoted}; GRANT ALL ON SCHEMA public TO {quoted}")
             (self.folder / "indexes.sql").write_text(MADE.replace("boss", quoted))
-            for was, undo in (("0", False), ("0", True), ("1", True)):
-                if was == "1":
-                    self.server.psql(f'GRANT {quoted} TO "{getpass.getuser()}"')
-                ran = self.made(owner, *["-v", "undo=1"] * undo)
+            for was, undo, shell in ((0, False, "sh"), (0, True, "bash"), (1, True, "sh")):
+                if was:
+                    self.server.psql(f'CREATE USER "{getpass.getuser()}" IN ROLE {quoted}')
+                ran = self.made(owner, *["-v", "undo=1"] * undo, shell=shell)
                 self.assertEqual(ran.returncode, 0, ran.stderr)
-                self.assertEqual(ran.stdout.split()[-2:], ["TRUE", str(undo).upper()])
-                self.assertEqual(self.is_member(owner), was)
-            self.server.psql("DROP TABLE made_again")
+                self.assertEqual(ran.stdout.split()[-2:], ["FALSE" if was else "TRUE", str(undo).upper()])
+                self.assertEqual((self.members(), self.is_role()), (str(was), str(was)))
+            self.server.psql(f'DROP TABLE made_again; DROP USER "{getpass.getuser()}"')
+        self.assertEqual(self.server.value("SELECT rolsuper FROM pg_roles WHERE rolname = 'boss'"), "f")
 
     def test_a_fault_is_the_status_and_leaves_no_membership(self) -> None:
         self.server.psql("CREATE ROLE boss")
         (self.folder / "indexes.sql").write_text("\\set ON_ERROR_STOP on\nSELECT 1/0;\n")
         self.assertEqual(self.made("boss").returncode, 3)
-        self.assertEqual(self.is_member("boss"), "0")
+        self.assertEqual((self.members(), self.is_role()), ("0", "0"))
         ran = self.made("stranger")
         self.assertNotEqual(ran.returncode, 0)
         self.assertIn('role "stranger" does not exist', ran.stderr)
+
+    def test_a_role_that_is_there_is_not_lent_to_the_owner(self) -> None:
+        """What the owner planted could give it a password, and have what else it may."""
+        self.server.psql(f'CREATE ROLE boss; CREATE USER "{getpass.getuser()}"')
+        ran = self.made("boss")
+        self.assertEqual((ran.returncode, ran.stdout), (1, ""))
+        self.assertIn("let boss run indexes.sql", ran.stderr)
+        self.assertEqual((self.members(), self.is_role()), ("0", "1"))
+
+    def test_a_password_that_planted_code_gives_it_serves_nobody(self) -> None:
+        self.server.psql("CREATE ROLE boss")
+        (self.folder / "indexes.sql").write_text("ALTER ROLE CURRENT_USER PASSWORD 'known'; SELECT 1/0 AS told;\n")
+        self.assertIn("division", self.made("boss").stderr)
+        self.assertEqual(self.is_role(), "0")
+
+    def test_what_is_left_is_told(self) -> None:
+        self.server.psql("CREATE ROLE boss; GRANT ALL ON SCHEMA public TO boss")
+        (self.folder / "indexes.sql").write_text("CREATE TABLE public.its_own ();\n")
+        ran = self.made("boss")
+        self.assertEqual(ran.returncode, 1)
+        self.assertIn(f"{getpass.getuser()} is left as a role", ran.stderr)
+        self.assertEqual((self.members(), self.is_role()), ("0", "1"))
+
+    def test_what_is_broken_off_leaves_no_membership(self) -> None:
+        self.server.psql("CREATE ROLE boss")
+        (self.folder / "indexes.sql").write_text("\\echo begun\n\\set ON_ERROR_STOP on\nSELECT pg_sleep(600);\n")
+        for sent in (signal.SIGHUP, signal.SIGINT, signal.SIGTERM):
+            begun = self.begun("boss")
+            assert begun.stdout is not None
+            self.assertEqual((begun.stdout.readline(), self.members()), ("begun\n", "1"))
+            os.killpg(begun.pid, sent)
+            begun.communicate(timeout=LONG)
+            self.assertNotEqual(begun.returncode, 0)
+            self.assertEqual((self.members(), self.is_role()), ("0", "0"), sent)
+            # A server that is asked to stop waits for them.
+            sleeping = "FROM pg_stat_activity WHERE query LIKE 'SELECT pg_sleep%'"
+            self.server.psql(f"SELECT pg_terminate_backend(pid) {sleeping}")
+
+    def test_the_environment_leads_nowhere_else(self) -> None:
+        self.server.psql("CREATE ROLE boss; GRANT ALL ON SCHEMA public TO boss")
+        elsewhere = {"PGHOST": "/nowhere", "PGHOSTADDR": "192.0.2.1", "PGSERVICE": "none", "CDPATH": "/"}
+        ran = self.made("boss", PGOPTIONS="-c role=none_such", **elsewhere)
+        self.assertEqual((ran.returncode, ran.stderr), (0, ""))
 
 
 if __name__ == "__main__":

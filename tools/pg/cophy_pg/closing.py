@@ -11,6 +11,7 @@ from cophy_text.shown import grouped, share, space
 from cophy_pg import folder
 from cophy_pg.folder import Folder
 from cophy_pg.guesses import seconds_of
+from cophy_pg.server import database_word
 from cophy_pg.speed import duration
 from cophy_pg.trust import DISTRUST, WHO
 
@@ -170,7 +171,8 @@ def command_of(document: dict[str, Any], script: str, owner: str, more: str = ""
     who, keys = _plain(owner), [("port", "-p"), ("database", "-d")]
     is_known = is_user(who) and is_here(document)
     given = [it for it in ([] if is_known else [("host", "-h")]) + keys if document.get(it[0])]
-    at = [word for key, word in given for word in (word, _plain(str(document[key])))]
+    names = {key: str(document[key]) for key, _ in given}
+    at = [it for key, word in given for it in (word, _plain(database_word(names[key]) if word == "-d" else names[key]))]
     if is_known:
         return f"{shlex.join(['sudo', '-u', who, 'psql', '-X', *at])}{more} < {shlex.quote(script)}"
     return f"{shlex.join(['psql', '-X', *at, '-U', who])}{more} -f {shlex.quote(script)}"

@@ -14,7 +14,7 @@ SOCKETS = ("/var/run/postgresql",)
 """Where psql looks for sockets, unless PGHOST names another folder."""
 PORT = "5432"
 LOCAL = ("localhost", "127.0.0.1", "::1")
-_SOCKET = re.compile(r"\.s\.PGSQL\.(\d+)")
+_SOCKET = re.compile(r"\.s\.PGSQL\.([0-9]{1,5})")
 
 
 def port_of(host: str) -> str:

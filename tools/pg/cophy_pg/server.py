@@ -319,6 +319,13 @@ def quoted_name(name: str) -> str:
     return '"' + name.replace('"', '""') + '"'
 
 
+def database_word(name: str) -> str:
+    """The name of a database as psql's -d takes it, which would take some names for a connection, as to another host."""
+    if "=" not in name and not name.startswith(("postgres://", "postgresql://")):
+        return name
+    return "dbname='" + name.replace("\\", "\\\\").replace("'", "\\'") + "'"
+
+
 def version_of(server: Server) -> int:
     """The server's version, as 150018."""
     return int(server.value("SELECT pg_catalog.current_setting('server_version_num')"))

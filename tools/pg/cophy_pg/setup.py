@@ -22,7 +22,7 @@ from cophy_pg.export import HIDDEN
 from cophy_pg.inputs import ADVISOR, NoInput, from_server, tell_short
 from cophy_pg.local import LOCAL, PORT, port_of, run_as
 from cophy_pg.progress import say
-from cophy_pg.server import OWN, UNKNOWN, Server, ServerFault, connected, reading, reason
+from cophy_pg.server import OWN, UNKNOWN, Server, ServerFault, connected, database_word, reading, reason
 
 SCRIPT = Path(__file__).resolve().parent / "advisor_role.sql"
 ROUNDS = 4096
@@ -59,13 +59,14 @@ def setup(words: argparse.Namespace) -> int:
     port = port_of(host)
     superuser = shlex.split(words.psql) if words.psql else _superuser(host, port)
     kept = {it: value for it, value in os.environ.items() if not it.startswith("PG") or words.psql and it != "PGUSER"}
-    _run([*superuser, "-d", database], kept, files.read(str(SCRIPT)).decode())
+    superuser += ["-d", database_word(database)]
+    _run(superuser, kept, files.read(str(SCRIPT)).decode())
     given = {it: os.environ[it] for it in ("PGHOST", "PGPORT") if os.environ.get(it)}
     given |= {"PGUSER": ADVISOR} if os.environ.get("PGUSER") else {}
     os.environ |= {"PGHOST": host, "PGPORT": port, "PGDATABASE": database, "PGUSER": ADVISOR}
     if not _is_known():
         secret = secrets.token_urlsafe(24)
-        _run([*superuser, "-d", database], kept, f"{OWN} ALTER ROLE {ADVISOR} PASSWORD '{verifier_of(secret)}';")
+        _run(superuser, kept, f"{OWN} ALTER ROLE {ADVISOR} PASSWORD '{verifier_of(secret)}';")
         _keep(host, port, secret)
     with connected() as server, reading(server):
         return _tell(server, database, given)
