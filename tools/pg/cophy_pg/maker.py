@@ -21,7 +21,7 @@ OWN = """{run} psql -X {at} "$@" < "$here/indexes.sql"
 MEMBER = """superuser() {{ {run} psql -X -q -A -t -v ON_ERROR_STOP=1 {place} -d postgres; }}
 before=$(superuser <<'END'
 SET search_path TO pg_catalog, pg_temp;
-SELECT 'CREATE USER {member_text}' WHERE to_regrole('{member_text}') IS NULL \gexec
+SELECT 'CREATE USER {member_text}' WHERE to_regrole('{member_text}') IS NULL \\gexec
 SELECT count(*) FROM pg_auth_members WHERE (roleid, member) = ('{owner_text}'::regrole, '{member_text}'::regrole);
 GRANT {owner} TO {member};
 END
