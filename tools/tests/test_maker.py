@@ -24,14 +24,15 @@ class Text(unittest.TestCase):
     def test_there_is_none_where_a_password_is_asked_for_or_owners_are_several(self) -> None:
         from cophy_pg.maker import maker_of
 
-        for more in (
+        table: list[dict[str, Any]] = [
             {"host": "elsewhere"},
             {"owners": ["boss", "other"]},
             {"owners": []},
             {"owners": ["b\u00f6ss"]},
             {"owners": ["boss\nEND"]},
             {"picks": []},
-        ):
+        ]
+        for more in table:
             self.assertEqual(maker_of(document(**more)), "", more)
         self.assertIn("for that time a member of boss", maker_of(document()))
 
@@ -65,8 +66,14 @@ class Member(InFolder):
         given = document(host=str(self.server.folder), port=5432, database="postgres", owners=[owner])
         (self.folder / "make.sh").write_text(maker_of(given))
         path = f"{self.folder}:{Path(str(program('psql'))).parent}:/usr/bin:/bin"
-        how = {"env": {"PATH": path, "PGUSER": "nobody"}, "capture_output": True, "text": True, "timeout": LONG}
-        return subprocess.run(["sh", str(self.folder / "make.sh"), *words], check=False, **how)  # type: ignore[call-overload]
+        return subprocess.run(
+            ["sh", str(self.folder / "make.sh"), *words],
+            env={"PATH": path, "PGUSER": "nobody"},
+            capture_output=True,
+            text=True,
+            check=False,
+            timeout=LONG,
+        )
 
     def is_member(self, owner: str) -> str:
         who = f"SELECT count(*) FROM pg_auth_members m JOIN pg_roles r ON r.oid = roleid AND rolname = $${owner}$$"
