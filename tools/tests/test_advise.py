@@ -24,7 +24,7 @@ from schema_check import faults
 
 FILES = (
     "advice.json advice.txt catalogue.toml certificate check.txt commands.txt curve.json database.toml details.txt export.txt indexes.sql kept.txt lint.txt "
-    "plans.json ruled.txt rules.txt summary.txt verify.json workload.sql"
+    "make.sh plans.json ruled.txt rules.txt summary.txt verify.json workload.sql"
 ).split()
 HAS_RICH = importlib.util.find_spec("rich") is not None
 
@@ -171,12 +171,8 @@ class Advise(OverSql):
         command = f"let their owner run: psql -X {place}"
         then = f"whether it helped: cophy-pg effect {self.found}"
         self.assertEqual(text.splitlines()[-2:], [f"to make them in about 1 second, {command}", then])
-        self.assertEqual(short.splitlines()[-1], then)
-        self.assertEqual(short.splitlines()[-4], f"psql -X {place}")
-        at = f"-h {self.server.folder} -p 5432"
-        made = r"""-c 'CREATE USER "(\w+)"' -c 'GRANT "cophy" TO "\1"'"""
-        member = rf"sudo -u postgres psql {at} {made} && PGUSER= psql -X {at} shop -f"
-        self.assertRegex(short.splitlines()[-2], f"^{member} {self.found}/indexes.sql$")
+        self.assertEqual(short.splitlines()[-2:], [f"sh {self.found}/make.sh", then])
+        self.assertIn(f"psql -X {place.partition(' -U ')[0]} -v joined=1", (self.found / "make.sh").read_text())
         self._reads_alone()
 
     def _reads_alone(self) -> None:

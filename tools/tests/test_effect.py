@@ -18,10 +18,6 @@ if not NO_PARSER:
     from cophy_pg.effect import Given, described
     from cophy_pg.effect_text import lines_of
     from cophy_pg.folder import Folder
-    from cophy_pg.inputs import Input
-    from cophy_pg.measured import Measured, a_call, called_since, told_of, writes_of
-    from cophy_pg.paths import Paths
-    from cophy_pg.snapshots import Count, Snapshot, digest
     from cophy_pg.standing import Found, shown_column, state_of
     from cophy_pg.standing import Standing as Stands
     from cophy_text.answers import Candidate
@@ -133,62 +129,6 @@ class Asked(unittest.TestCase):
         self.assertEqual(self.shown(("there", False), ("not made", False)), ([1, 2], False))
         self.assertEqual(self.shown(("there", False)), ([1], True))
         self.assertEqual(self.shown(), ([], True))
-
-
-@unittest.skipIf(NO_PARSER, NO_PARSER)
-class Times(unittest.TestCase):
-    """What was counted since, of statements with 10 calls and 1 ms each before."""
-
-    def setUp(self) -> None:
-        self.paths = Paths({"app": "sales"}, "public", "me", "public")
-        self.statements = [
-            {"numbers": [at], "sql": f"SELECT {at}", "role": "app", "calls": 10, "seconds": 0.01, "picks": picks}
-            for at, picks in enumerate(([1], [2], [], [], []), 1)
-        ]
-        hint = {"place": 3, "why_not": None, "changes": [{"numbers": [3]}]}
-        self.document: dict[str, Any] = {"statements": self.statements, "hints": [hint]}
-        self.then = Snapshot("7", {digest(self.input(at, 10, 0.01)): Count(10, 0.01, 0.0) for at in range(1, 6)}, "d")
-
-    def input(self, at: int, calls: int, seconds: float) -> Input:
-        return Input(f"SELECT {at}", calls, seconds, 0.0, role="app", path=("sales",))
-
-    def measured(self, *counts: tuple[int, float], there: tuple[int, ...] = (1, 3)) -> list[tuple[int, bool, int]]:
-        """The numbers of the statements, whether an index helps them, and their calls since."""
-        now = [self.input(at, calls, seconds) for at, (calls, seconds) in enumerate(counts, 1)]
-        every = called_since(Snapshot("7", {}, "d"), now, self.then, self.document, self.paths, there)
-        found = told_of(every)
-        self.times = a_call(found)
-        return [(it.numbers[0], it.is_helped, it.calls) for it in found]
-
-    def test_those_that_indexes_help_are_told_and_the_most_saved_first(self) -> None:
-        # The second one's index isn't there, and the third one has a hint.
-        counts = (20, 0.015), (20, 0.015), (110, 0.02), (20, 0.0205), (10, 0.01)
-        self.assertEqual(self.measured(*counts), [(3, True, 100), (1, True, 10)])
-        self.assertAlmostEqual(self.times[0], 1.0)
-        self.assertAlmostEqual(self.times[1], 15 / 110)
-        self.assertEqual([it[0] for it in self.measured(*counts, there=(2,))], [2])
-
-    def test_what_got_much_slower_is_told_too(self) -> None:
-        counts = (20, 0.011), (10, 0.01), (10, 0.01), (20, 0.03), (20, 0.021)
-        self.assertEqual(self.measured(*counts), [(1, True, 10), (4, False, 10)])
-        # Not by a few calls.
-        counts = (20, 0.011), (10, 0.01), (10, 0.01), (14, 0.026), (20, 0.021)
-        self.assertEqual(self.measured(*counts), [(1, True, 10)])
-        # A loss that nobody feels isn't.
-        counts = (1010, 1.01), (10, 0.01), (10, 0.01), (20, 0.0225), (10, 0.01)
-        self.assertEqual(self.measured(*counts), [(1, True, 1000)])
-
-    def test_those_that_write_are_told_apart(self) -> None:
-        texts = ("INSERT INTO t", " update t", "SELECT 1", "WITH a AS (SELECT 2) DELETE FROM t", "DELETE FROM t")
-        found = [Measured([], it, False, 1, 1.0, 1.0) for it in texts]
-        self.assertEqual([it.sql for it in writes_of(found)], [texts[0], texts[1], texts[4]])
-
-    def test_what_wasnt_called_or_has_another_path_isnt(self) -> None:
-        same = [(10, 0.01)] * 5
-        self.assertEqual(self.measured(*same), [])
-        self.paths.by_role["app"] = "other"
-        self.assertEqual(self.measured((20, 0.011)), [])
-        self.assertEqual(a_call([]), (0.0, 0.0))
 
 
 @unittest.skipIf(NO_PARSER, NO_PARSER)

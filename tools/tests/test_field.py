@@ -83,7 +83,8 @@ class Parts(unittest.TestCase):
                 none, ours = load(folder), load(folder, 50, "cophy", "real")
                 assert none is not None and ours is not None
                 self.assertEqual(slower(ours, none), [])
-                return row(ours, none)[:5]
+                cells: list[str] = row(ours, none)[:5]
+                return cells
 
             write("none.json", 10, [], {})
             write("cophy-real-50.json", 4, [], {"t(a)": 20})

@@ -26,14 +26,15 @@ class Text(unittest.TestCase):
     def test_there_is_none_where_a_password_is_asked_for_or_owners_are_several(self) -> None:
         from cophy_pg.maker import maker_of
 
-        for more in (
+        table: list[dict[str, Any]] = [
             {"host": "elsewhere"},
             {"owners": ["boss", "other"]},
             {"owners": []},
             {"owners": ["b\u00f6ss"]},
             {"owners": ["boss\nEND"]},
             {"picks": []},
-        ):
+        ]
+        for more in table:
             self.assertEqual(maker_of(document(**more)), "", more)
         self.assertIn("for that time a role and a member of boss", maker_of(document()))
         user = mock.Mock(pw_name="postgres")

@@ -124,12 +124,12 @@ class Worths(unittest.TestCase):
         saves: dict[str, Any] = {"ours": 27.0, "server": 4.0, "measured": 20.0, "planned": 3.3}
         doubt = "the server saves 4.0 %: probably not worth 33.0 MB"
         for ours, is_so, why in ((26.5, True, ""), (5.0, True, ""), (4.9, True, doubt), (26.5, False, doubt)):
-            changes: list[dict[str, Any]] = [
+            found: list[dict[str, Any]] = [
                 {"ours": ours, "counted": is_so},
                 {"ours": -0.2, "counted": False},
                 {"ours": 9.0},
             ]
-            pick = {"saves": saves, "outcome": "taken", "clustered": False, "stored_pages": 4224, "changes": changes}
+            pick = {"saves": saves, "outcome": "taken", "clustered": False, "stored_pages": 4224, "changes": found}
             self.assertEqual(doubt_of(pick), why)
 
     def test_the_statement_that_saves_the_most_time_is_the_first_of_a_pick(self) -> None:

@@ -36,7 +36,7 @@ from cophy_text.answers import NoAnswer
 
 PAGE = Path(__file__).resolve().parents[3] / "docs" / "POSTGRES.md"
 PACKED = "/usr/share/doc/cophy-pg/POSTGRES.md.gz"
-BEGIN = """cophy-pg setup DATABASE makes a role that only reads and two extensions, then prints the two lines to type next.
+BEGIN = """cophy-pg setup DATABASE makes a role that only reads and two extensions, then prints the line to type next.
 Nothing else changes on the server until you run the script that advise writes.
 All commands: cophy-pg --help; manual: {}"""
 
