@@ -88,15 +88,16 @@ class Worths(unittest.TestCase):
         for it, (measured, planned) in zip(listed, ((40.0, 15.3), (1.9, 1.6), (2.0, 0.0), (9.0, 0.0)), strict=True):
             it["saves"] |= {"measured": measured, "planned": planned}
         self.assertEqual(sorted(range(4), key=lambda at: place_of(listed[at])), [0, 3, 2, 1])
-        listed = [pick(27.0, 3.3), pick(1.0, 30.0), pick(20.0, 0.0, clustered=True), pick(5.0, 0.0, outcome="unknown")]
+        listed = [pick(27.0, 0.7), pick(1.0, 30.0), pick(20.0, 0.0, clustered=True), pick(5.0, 0.0, outcome="unknown")]
         doubts = [doubt_of(it) for it in listed]
-        self.assertEqual(doubts, ["the server saves 3.3 %: probably not worth 33.0 MB", "", "", ""])
+        self.assertEqual(doubts, ["the server saves 0.7 %: probably not worth 33.0 MB", "", "", ""])
         for ours, server, planned, why in (
             (4.4, 0.9, 7.7, ""),
-            (27.0, 3.3, 5.0, ""),
-            (14.0, 2.9, 4.2, ""),
-            (27.0, 3.3, 4.2, "it saves 4.2 % of the measured time: probably not worth 33.0 MB"),
-            (27.0, 3.3, 1.0, "the server saves 3.3 %: probably not worth 33.0 MB"),
+            (27.0, 0.7, 1.0, ""),
+            (3.0, 0.7, 0.8, ""),
+            (39.2, 2.4, 1.7, ""),
+            (27.0, 0.7, 0.8, "it saves 0.8 % of the measured time: probably not worth 33.0 MB"),
+            (27.0, 0.7, 0.2, "the server saves 0.7 %: probably not worth 33.0 MB"),
         ):
             it = pick(ours, server)
             it["saves"]["planned"] = planned
@@ -121,8 +122,8 @@ class Worths(unittest.TestCase):
         ):
             with self.subTest(text=text, changes=changes):
                 self.assertEqual(is_counted(text, changes, columns), is_so)
-        saves: dict[str, Any] = {"ours": 27.0, "server": 4.0, "measured": 20.0, "planned": 3.3}
-        doubt = "the server saves 4.0 %: probably not worth 33.0 MB"
+        saves: dict[str, Any] = {"ours": 27.0, "server": 0.9, "measured": 20.0, "planned": 0.3}
+        doubt = "the server saves 0.9 %: probably not worth 33.0 MB"
         for ours, is_so, why in ((26.5, True, ""), (5.0, True, ""), (4.9, True, doubt), (26.5, False, doubt)):
             found: list[dict[str, Any]] = [
                 {"ours": ours, "counted": is_so},

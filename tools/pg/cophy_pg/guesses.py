@@ -11,7 +11,8 @@ from cophy_text.shown import percent, space
 LITTLE = 1.0
 """So many percent of the measured time are little."""
 FEW, FAR = 5.0, 4
-"""Where our model saves so many times what the server does, and the server few percent, that is told."""
+"""Few percent, of what counted rows say; and where our model saves so many times what the server does, and the server little,
+that is told."""
 COUNTED = "rows of a call"
 """The change by which a range of parameters holds as many rows as the server counted."""
 _HELD = re.compile(r"(\w+)\s*(?:[<>]=?|BETWEEN)\s*(?:-?\d|'|DATE '|TIMESTAMP ')", re.IGNORECASE)
@@ -83,11 +84,11 @@ def by_server(pick: dict[str, Any]) -> tuple[float, str]:
 
 
 def doubt_of(pick: dict[str, Any]) -> str:
-    """What there is to say of a pick that by the server, of the cost and of the measured time, saves far less than by our model,
-    but where this saves enough by counted rows."""
+    """What there is to say of a pick that by the server, of the cost and of the measured time, saves little and far less than by
+    our model, but where this saves enough by counted rows."""
     ours = max(float(pick["saves"].get(it) or 0.0) for it in ("ours", "measured"))
     saved, what = by_server(pick)
     counted = sum(float(it["ours"]) for it in pick.get("changes", ()) if it.get("counted"))
-    if not is_judged(pick) or max(saved, counted) >= FEW or ours < max(LITTLE, FAR * saved):
+    if not is_judged(pick) or saved >= LITTLE or counted >= FEW or ours < max(LITTLE, FAR * saved):
         return ""
     return f"{what}: probably not worth {space(pick['stored_pages'])}"
