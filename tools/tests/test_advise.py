@@ -172,7 +172,7 @@ class Advise(OverSql):
         then = f"whether it helped: cophy-pg effect {self.found}"
         self.assertEqual(text.splitlines()[-2:], [f"to make them in about 1 second, {command}", then])
         self.assertEqual(short.splitlines()[-2:], [f"sh {self.found}/make.sh", then])
-        self.assertIn(f"psql -X {place.partition(' -U ')[0]} -v joined=1", (self.found / "make.sh").read_text())
+        self.assertIn(f"\npsql -X {place.partition(' -U ')[0]} \"$@\"", (self.found / "make.sh").read_text())
         self._reads_alone()
 
     def _reads_alone(self) -> None:

@@ -16,6 +16,8 @@ from private_server import PrivateServer, program
 
 MADE = "SET ROLE boss; CREATE TABLE IF NOT EXISTS made_again (); \\echo :{?joined} :{?undo}\n"
 
+SENT = (signal.SIGHUP, signal.SIGINT, signal.SIGTERM)
+
 
 def document(**more: Any) -> dict[str, Any]:
     """A document with a pick."""
@@ -85,6 +87,8 @@ class Member(InFolder):
         (self.folder / "make.sh").write_text(maker_of(given))
         path = f"{self.folder}:{Path(str(program('psql'))).parent}:/usr/bin:/bin"
         how = {"env": {"PATH": path, "PGUSER": "nobody"} | more, "text": True, "start_new_session": True}
+        # Who runs without a terminal may pass over some of these, and so would whom he starts.
+        how["preexec_fn"] = lambda: [signal.signal(it, signal.SIG_DFL) for it in SENT]
         pipes = {"stdout": subprocess.PIPE, "stderr": subprocess.PIPE}
         called = [shell, str(self.folder / "make.sh"), *words]
         return subprocess.Popen(called, **how, **pipes)  # type: ignore[call-overload, no-any-return]
@@ -152,7 +156,7 @@ class Member(InFolder):
     def test_what_is_broken_off_leaves_no_membership(self) -> None:
         self.server.psql("CREATE ROLE boss")
         (self.folder / "indexes.sql").write_text("\\echo begun\n\\set ON_ERROR_STOP on\nSELECT pg_sleep(600);\n")
-        for sent in (signal.SIGHUP, signal.SIGINT, signal.SIGTERM):
+        for sent in SENT:
             begun = self.begun("boss")
             assert begun.stdout is not None
             self.assertEqual((begun.stdout.readline(), self.members()), ("begun\n", "1"))
