@@ -9,7 +9,7 @@ from fixtures import NO_PARSER
 if not NO_PARSER:
     from test_exchange import Made
 
-    from cophy_pg.beside import WEAK, Beside, shares
+    from cophy_pg.beside import Beside, shares
     from cophy_pg.choice import Choice
     from cophy_pg.exchange import Exchange
     from cophy_pg.inputs import Input
@@ -64,21 +64,6 @@ class Steps(unittest.TestCase):
         self.assertEqual([it.number for it in asked.picks], [1, 3, 4, 6])
         self.assertEqual(beside.better([self.verdict(3, 80, 75, 4)]), {1, 4})
         self.assertEqual(beside.better([self.verdict(3, 80, 79.5, 4)]), {1, 3})
-
-    def test_more_picks_may_make_way_where_more_are_weak(self) -> None:
-        # 3 saves a twentieth of what both do.
-        now = [self.verdict(1, 1000, 50, 1), self.verdict(2, 90, 40, 3), self.verdict(3, 80, 80)]
-        then = [self.verdict(3, 80, 10, 4)]
-        beside = self.beside(62, (1, 3), now)
-        asked = beside.asked_about()
-        assert asked is not None
-        self.assertEqual([it.number for it in asked.picks], [1, 3, 6])
-        self.assertEqual(beside.better(then), {1, 3})
-        beside.weak = WEAK[0]
-        asked = beside.asked_about()
-        assert asked is not None
-        self.assertEqual([it.number for it in asked.picks], [1, 3, 4, 6])
-        self.assertEqual(beside.better(then), {1, 4})
 
     def test_a_pick_of_which_the_first_column_would_do_makes_room(self) -> None:
         now = [self.verdict(1, 100, 10, 1), self.verdict(2, 90, 90), self.verdict(3, 80, 80)]

@@ -13,9 +13,8 @@ from cophy_pg.pricing import Chosen
 
 LEAST = 0.0001
 """The share of what the statements cost without any pick that a candidate has to save."""
-WEAK = (0.1, 0.02)
-"""Picks that save no more together than this share of what all do may make way; the smaller share where the larger one brings
-nothing."""
+WEAK = 0.02
+"""Picks that save no more together than this share of what all do may make way."""
 WRITES = 2
 """So many times what a candidate costs where rows are written does it have to save."""
 MUCH_SMALLER = 0.75
@@ -39,15 +38,13 @@ class Trade:
 @dataclass
 class Beside:
     """The picks that stay, with what the server's planner says of each statement under them. `divisor` is what calls were
-    divided by for the weights of our model, `longer` what planning takes longer for a candidate, and `weak` the share of what
-    all picks save by which those may make way that save no more together."""
+    divided by for the weights of our model, and `longer` what planning takes longer for a candidate."""
 
     choice: Choice
     verdicts: list[Verdict]
     exchange: Exchange
     divisor: float = 1.0
     longer: Callable[[Candidate], float] = lambda _: 0.0
-    weak: float = WEAK[-1]
 
     def __post_init__(self) -> None:
         self.chosen: Chosen = frozenset(it.number for it in self.choice.advice.picks)
@@ -140,7 +137,7 @@ class Beside:
 
     def _weak(self) -> list[int]:
         """The picks that save the least a page, as many as save little together."""
-        whole, found = self.weak * sum(self.saved.values()), list[int]()
+        whole, found = WEAK * sum(self.saved.values()), list[int]()
         for it in sorted(self.chosen - self.exchange.fixed, key=self._order):
             whole -= self.saved.get(it, 0.0)
             if whole < 0:

@@ -6,14 +6,12 @@ from dataclasses import dataclass, replace
 from functools import partial
 
 from cophy_text.answers import Advice, Candidate, Prices
-from cophy_pg.beside import WEAK, Beside, Trade
+from cophy_pg.beside import Beside
 from cophy_pg.choice import UNTAKEN, Choice, Limits, drop_by_limits, drop_by_server
-from cophy_pg.exchange import Exchange
 from cophy_pg.outcomes import Verdict, outcomes
 from cophy_pg.picks import home_of
 from cophy_pg.planning import COSTLY, Planning, costly_picks
 from cophy_pg.plans import Plan, costs_without, under
-from cophy_pg.pricing import Chosen
 from cophy_pg.program import NoCommand, Program
 from cophy_pg.schema import Schema
 from cophy_pg.searches import MOST_SEARCHES, Rules, Searches
@@ -91,43 +89,29 @@ class Rounds:
         self.searches.begin(ADDITIONS)
         for number in range(0 if self.words.min_saving else ADDITIONS):
             self.steps.begin(f"filling space that is left, round {number + 1} of at most {ADDITIONS}")
-            added = self._added(server, choice, judged, exchange)
-            if added is None:
-                break
-            choice, judged = added
-        return choice, judged
-
-    def _added(
-        self, server: Server, choice: Choice, judged: Judged, exchange: Exchange
-    ) -> tuple[Choice, Judged] | None:
-        """What comes of what the planner takes in the space that is left, and in the place of weak picks; nothing where it
-        says that none of this saves anything."""
-        planning, tried = Planning(self.schema, judged.verdicts, self.words.planning), set[Chosen]()
-        trades: list[Trade] | None = None
-        for weak in WEAK:
-            beside = Beside(choice, judged.verdicts, exchange, self.workload.divisor, planning.longer, weak)
-            if trades is None:
-                trades = [self._priced(server, beside, it) for it in beside.narrower()]
+            planning = Planning(self.schema, judged.verdicts, self.words.planning)
+            beside = Beside(choice, judged.verdicts, exchange, self.workload.divisor, planning.longer)
+            trades = []
+            for it in beside.narrower():
+                users = self.asked(server, beside.with_trade(it), beside.users(it)).verdicts
+                trades.append(beside.priced(it, users))
             asked = beside.asked_about(trades)
             if asked is None:
-                return None
-            chosen = beside.better(self.asked(server, asked, judged.verdicts).verdicts, trades)
-            if chosen == beside.chosen or chosen in tried:
-                continue
-            tried.add(chosen)
+                break
+            found = self.asked(server, asked, judged.verdicts).verdicts
+            chosen = beside.better(found, trades)
+            if chosen == beside.chosen:
+                break
             try:
                 advice, rules = self.searches.made_of(chosen, self.rules)
             except NoCommand:
-                return None
+                break
             more = Choice(advice, [*choice.left_out], rules=rules)
             again = self._settle(server, more, judged.verdicts)
-            if again.sums()[0] >= judged.sums()[0] and again.sums()[2] < judged.sums()[2]:
-                return more, again
-        return None
-
-    def _priced(self, server: Server, beside: Beside, trade: Trade) -> Trade:
-        """A trade with its loss by the planner."""
-        return beside.priced(trade, self.asked(server, beside.with_trade(trade), beside.users(trade)).verdicts)
+            if again.sums()[0] < judged.sums()[0] or again.sums()[2] >= judged.sums()[2]:
+                break
+            choice, judged = more, again
+        return choice, judged
 
     def _settle(self, server: Server, choice: Choice, known: list[Verdict] | None = None) -> Judged:
         """Asks the planner until all picks that are left stay. Picks that were left out before are asked about no more."""
