@@ -52,16 +52,20 @@ class Rounds:
 
     def best(self, server: Server, choice: Choice) -> tuple[Choice, Judged]:
         """Searches again without what no plan takes, which leaves room for others; the choice that costs the least by the
-        server's planner, and what it says of that. An older program doesn't search again."""
+        server's planner, and what it says of that. An older program doesn't search again. Once the time is up, a later round
+        is broken off."""
         best: tuple[Choice, Judged] | None = None
         least = (0, 0.0)
         for number in range(1, ROUNDS + 1):
-            judged = self._settle(server, choice)
+            judged = self._settle(server, choice, is_needed=best is None)
+            if judged is None:
+                break
             count, _, after = judged.sums()
             if best is None or (-count, after) < least:
                 best, least = (choice, judged), (-count, after)
-            if number == ROUNDS or not self.rules.forbid(choice.untaken):
+            if number == ROUNDS or not self.rules.forbid(choice.untaken) or self.searches.is_over():
                 break
+            self.searches.tell_rest_after(number, ROUNDS)
             try:
                 choice = self.searched(number + 1)
             except NoCommand:
@@ -91,7 +95,7 @@ class Rounds:
         self.searches.begin(ADDITIONS)
         for number in range(0 if self.words.min_saving else ADDITIONS):
             self.steps.begin(f"filling space that is left, round {number + 1} of at most {ADDITIONS}")
-            added = self._added(server, choice, judged, exchange)
+            added = None if self.searches.is_over() else self._added(server, choice, judged, exchange)
             if added is None:
                 break
             choice, judged = added
@@ -107,9 +111,9 @@ class Rounds:
         for weak in WEAK:
             beside = Beside(choice, judged.verdicts, exchange, self.workload.divisor, planning.longer, weak)
             if trades is None:
-                trades = [self._priced(server, beside, it) for it in beside.narrower()]
+                trades = [self._priced(server, beside, it) for it in beside.narrower() if not self.searches.is_over()]
             asked = beside.asked_about(trades)
-            if asked is None:
+            if asked is None or self.searches.is_over():
                 return None
             chosen = beside.better(self.asked(server, asked, judged.verdicts).verdicts, trades)
             if chosen == beside.chosen or chosen in tried:
@@ -120,8 +124,8 @@ class Rounds:
             except NoCommand:
                 return None
             more = Choice(advice, [*choice.left_out], rules=rules)
-            again = self._settle(server, more, judged.verdicts)
-            if again.sums()[0] >= judged.sums()[0] and again.sums()[2] < judged.sums()[2]:
+            again = self._settle(server, more, judged.verdicts, is_needed=False)
+            if again and again.sums()[0] >= judged.sums()[0] and again.sums()[2] < judged.sums()[2]:
                 return more, again
         return None
 
@@ -129,11 +133,15 @@ class Rounds:
         """A trade with its loss by the planner."""
         return beside.priced(trade, self.asked(server, beside.with_trade(trade), beside.users(trade)).verdicts)
 
-    def _settle(self, server: Server, choice: Choice, known: list[Verdict] | None = None) -> Judged:
-        """Asks the planner until all picks that are left stay. Picks that were left out before are asked about no more."""
+    def _settle(
+        self, server: Server, choice: Choice, known: list[Verdict] | None = None, is_needed: bool = True
+    ) -> Judged | None:
+        """Asks the planner until all picks that are left stay. Picks that were left out before are asked about no more. Once
+        the time is up, nothing comes of it, or where something is needed, what takes longer to plan than it saves stays.
+        """
         words = self.words
         limits = Limits(words.min_saving, words.most_per_table)
-        while True:
+        while is_needed or not self.searches.is_over():
             judged = self.asked(server, choice.advice, known)
             known = judged.verdicts
             with self.steps.step("limits", "leaving out what isn't worth it"):
@@ -142,11 +150,15 @@ class Rounds:
                 is_less |= drop_by_limits(choice, self.program, limits, self.steps, self.rules.asks_for, worth)
             if not is_less and not self._drop_costly(server, choice, judged.verdicts):
                 return judged
+        return None
 
     def _drop_costly(self, server: Server, choice: Choice, found: list[Verdict]) -> bool:
         """Leaves out what saves less time than planning and writing take longer for it; whether anything was."""
 
         def ask(picks: list[Candidate], listed: list[Verdict]) -> dict[int, Plan]:
+            # What isn't asked about stays.
+            if self.searches.is_over():
+                return {}
             return under(server, self.schema, replace(choice.advice, picks=picks), listed, self.steps)
 
         if not self.words.planning:
