@@ -68,6 +68,12 @@ class Unfinished(OverShop):
                 self.assertEqual((command[:2], "--include" in command), ([str(TOOL), "ddl"], bool(more)))
                 self.assertEqual(command[-2:], [">", f"{self.found}/indexes.sql"])
                 self.assertIn('ON "sales"."orders" ("total")', self.call(*command[1:-2]).stdout)
+                for later in (["effect"], ["report"], ["changes", str(self.found)]):
+                    ran = self.call(*later, str(self.found), status=1)
+                    anew = f"{self.found}: this advice was broken off, or isn't done yet; anew: cophy-pg advise shop --folder "
+                    self.assertIn(anew, ran.stderr)
+                    again = ran.stderr.partition("didn't judge: cophy-pg ")[2]
+                    self.assertIn('ON "sales"."orders" ("total")', self.call(*shlex.split(again)).stdout)
             held.unlink(missing_ok=True)
         self.call(*words[1:], COPHY_PROGRAM=str(STAND_IN))
         self.assertFalse((self.found / "unfinished.txt").exists())
