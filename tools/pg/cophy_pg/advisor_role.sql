@@ -32,6 +32,7 @@ SELECT NOT EXISTS (SELECT FROM pg_catalog.pg_roles WHERE rolname = 'cophy_adviso
        :'statements' = 'counted' AND NOT EXISTS (
            SELECT FROM pg_catalog.pg_extension WHERE extname = 'pg_stat_statements') AS makes_statements,
        EXISTS (SELECT FROM pg_catalog.pg_namespace WHERE nspname = 'counted') AS has_counted,
+       EXISTS (SELECT FROM pg_catalog.pg_extension WHERE extname = 'hypopg') AS has_hypopg,
        current_setting('server_version_num')::int >= 140000 AS has_read_all \gset
 BEGIN;
 
@@ -116,5 +117,14 @@ CROSS JOIN (SELECT pg_catalog.regexp_match(pg_catalog.current_setting('data_dire
     \warn '    sudo -u postgres psql -p' :PORT '-c "ALTER SYSTEM SET shared_preload_libraries =' :wanted'"'
     \warn '    sudo systemctl restart' :service
     \warn 'Then let the application run for a working day, or for one round of all that matters.'
+\endif
+SELECT pg_catalog.concat_ws(', ', CASE WHEN :'is_new' THEN 'the role cophy_advisor' END,
+           CASE WHEN NOT :'has_hypopg' AND EXISTS (SELECT FROM pg_catalog.pg_extension WHERE extname = 'hypopg')
+               THEN 'the extension hypopg and its schema hypopg' END,
+           CASE WHEN :'makes_statements' THEN pg_catalog.concat('the extension pg_stat_statements',
+               CASE WHEN NOT :'has_counted' THEN ' and its schema counted' END) END) AS made \gset
+SELECT :'made' <> '' AS is_made \gset
+\if :is_made
+    \echo made: :made
 \endif
 \echo the role cophy_advisor is ready in :DBNAME
