@@ -92,6 +92,16 @@ class Setup(InFolder):
         self.assertEqual(ran.returncode, 0, ran.stderr)
         details = (self.folder / "found" / "details.txt").read_text()
         self.assertIn(" database 'odd', 2 of 3 statements counted with ", details)
+        own = "SELECT count(*) FROM counted.pg_stat_statements WHERE userid = 'cophy_advisor'::regrole"
+        self.assertEqual(other.value(own, "odd"), "0")
+        # What the role ran where it was counted is none of the workload either.
+        other.psql("ALTER ROLE cophy_advisor RESET pg_stat_statements.track")
+        other.psql("SELECT count(a) FROM t WHERE a < 7", "odd", PGUSER="cophy_advisor")
+        self.assertNotEqual(other.value(own, "odd"), "0")
+        names = self.in_folder("c.toml", "w.sql")
+        ran = called(other, "export", *names, database="odd", PGUSER="cophy_advisor")
+        self.assertEqual(ran.returncode, 0, ran.stderr)
+        self.assertNotIn("count", (self.folder / "w.sql").read_text())
 
     def test_what_it_made_is_taken_back_as_the_page_says(self) -> None:
         other = PrivateServer()

@@ -50,6 +50,13 @@ END $$;
 \endif
 ALTER ROLE cophy_advisor NOSUPERUSER NOCREATEDB NOCREATEROLE NOREPLICATION NOBYPASSRLS CONNECTION LIMIT 4;
 ALTER ROLE cophy_advisor SET default_transaction_read_only TO on;
+-- Its own statements would fill pg_stat_statements.
+DO $$
+BEGIN
+    ALTER ROLE cophy_advisor SET pg_stat_statements.track TO 'none';
+EXCEPTION WHEN insufficient_privilege OR undefined_object THEN
+    NULL;
+END $$;
 GRANT CONNECT ON DATABASE :"DBNAME" TO cophy_advisor;
 -- The statements of all roles in pg_stat_statements.
 GRANT pg_read_all_stats TO cophy_advisor;
