@@ -218,6 +218,38 @@ class OverTheStandIn(InFolder):
             lines = [it[0][0] for it in said.call_args_list]
             self.assertEqual([it for it in lines if it.endswith(" more")], wanted)
 
+    def test_how_long_all_takes_is_told_anew_by_rounds_and_ends_with_the_patience(self) -> None:
+        schema = read_schema(self.kept.read(folder.CATALOGUE))
+        for patience, wanted in (
+            (10**9, ["by the first search: about 70 seconds more", "by 1 round of at most 4: about 7 minutes more"]),
+            (160, ["by the first search: about 70 seconds more", "by 1 round of at most 4: about 90 seconds more"]),
+            (50, ["by the first search: about 50 seconds more", "by 1 round of at most 4: about 30 seconds more"]),
+        ):
+            program = Slow(self.program, {"advise": 1})
+            more = {"clock": lambda: program.now, "patience": patience}
+            searches = Searches(program, self.kept, 500, (), Progress(), **more)  # type: ignore[arg-type]
+            with mock.patch("cophy_pg.progress.say") as said:
+                searches.filling(schema, Rules())
+                program.now = int(searches.begun) + 100
+                self.assertEqual(searches.is_over(), patience == 50)
+                searches.tell_rest_after(1, 4)
+            lines = [it[0][0] for it in said.call_args_list]
+            self.assertEqual([it for it in lines if it.endswith(" more")], wanted)
+
+    def test_where_the_time_is_up_the_first_that_fits_is_enough(self) -> None:
+        schema, found = read_schema(self.kept.read(folder.CATALOGUE)), list[tuple[int, bool, int]]()
+        sizes = {it.table: stored_size(schema, [it]) for it in self.program.advise(10**9).picks}
+        for patience in (10**9, 0):
+            program = Slow(self.program, {"advise": 1, "whatif": 1})
+            more = {"clock": lambda: program.now, "patience": patience}
+            searches = Searches(program, self.kept, sizes["large"] + 1, (), Progress(), **more)  # type: ignore[arg-type]
+            advice, _ = searches.filling(schema, Rules())
+            self.assertLessEqual(stored_size(schema, advice.picks), sizes["large"] + 1)
+            found.append((len(program.asked), searches.was_over, len(searches.curve())))
+        self.assertEqual([it[1] for it in found], [False, True])
+        self.assertLess(found[1][0], found[0][0])
+        self.assertLess(found[1][2], found[0][2])
+
     def test_exchanging_stops_in_time_with_what_it_found(self) -> None:
         schema, told = read_schema(self.kept.read(folder.CATALOGUE)), list[str]()
         progress = type("Told", (Progress,), {"__call__": lambda _, text: told.append(text)})()

@@ -52,6 +52,7 @@ def document(folder: str) -> dict[str, Any]:
         "min_saving": 0.0,
         "planning": 10.0,
         "most_per_table": None,
+        "patience": 180.0,
         "include": False,
         "long_columns": False,
     }

@@ -1,6 +1,8 @@
 """What is told while a command works: how far it is."""
 from __future__ import annotations
 
+import importlib.util
+import io
 import unittest
 from unittest import mock
 
@@ -32,6 +34,31 @@ class Progress(unittest.TestCase):
             with steps.step(name, "it begins"):
                 told += [f"{name}{it}" for it in seconds if self.told(steps, "it goes on", it)]
         self.assertEqual(told, ["a2", "a31", "b2", "a31"])
+
+    @unittest.skipUnless(importlib.util.find_spec("rich"), "python3-rich isn't installed")
+    def test_bars_are_as_many_of_the_last_ones_as_fit(self) -> None:
+        from cophy_pg.bars import Bars
+        from rich.console import Console
+
+        for width, height in ((80, 24), (200, 50), (60, 3)):
+            for count in (1, height - 1, 60):
+                console = Console(
+                    file=io.StringIO(), force_terminal=True, width=width, height=height, color_system=None
+                )
+                bars = Bars(console)
+                for at in range(count):
+                    text = f"{at}: filling space that is left, round 2 of at most 3, asking the server's planner"
+                    task = bars.add_task(text, total=1234)
+                    bars.update(task, completed=1200 + at)
+                with console.capture() as captured:
+                    console.print(bars.get_renderable())
+                lines = captured.get().splitlines()
+                with self.subTest(width=width, height=height, count=count):
+                    self.assertEqual(len(lines), min(count, height - 1))
+                    for at, line in enumerate(lines, count - len(lines)):
+                        self.assertTrue(line.startswith(f"{at}: filling space that is "), line)
+                        self.assertIn(f" {1200 + at}/1234 ", line)
+                        self.assertRegex(line, r" (-:--:--|0:00:0\d) *$")
 
 
 if __name__ == "__main__":

@@ -68,7 +68,10 @@ class Script(OverOwn):
     def test_it_makes_all_makes_none_twice_and_takes_them_back(self) -> None:
         text = self.script(PICKS)
         said = self.run_script(text)
-        self.assertRegex(said, r"\A1: plain\(a, b\), about 0\.1 MB and 1 second\n2: .*\n3: .*\n4: .*\ndone\n\Z")
+        self.assertRegex(said, r"\A1: plain\(a, b\), about 0\.1 MB, under a second\n2: .*\n3: .*\n4: .*\ndone\n\Z")
+        # Each takes less than what the head says of all, which is said in whole seconds.
+        self.assertRegex(text, r"\A-- \d steps, about [0-9.]+ MB of indexes and 1 second,")
+        self.assertEqual(said.count(" MB, under a second\n"), 4, said)
         made = self.names()
         self.assertEqual(len(made), 4 + 4 + 1, made)
         self.assertFalse([it for it in made if it.endswith("INVALID")])
@@ -251,7 +254,8 @@ class Script(OverOwn):
                 self.assertEqual(self.names(), ["plain_a_idx INVALID"])
             said = self.run_script(text)
             self.assertIn(
-                "1: plain(a), about 0.1 MB and 1 second\nan earlier run left it INVALID, so it is dropped first\n", said
+                "1: plain(a), about 0.1 MB, under a second\nan earlier run left it INVALID, so it is dropped first\n",
+                said,
             )
             self.assertEqual(self.names(), ["plain_a_idx", "plain_b_idx"])
             self.run_script(text, "-v", "undo=1")
@@ -311,7 +315,7 @@ class Script(OverOwn):
         self.assertIn("-- the catalogue is newer than the advice", ran.stdout)
 
     def test_estimates_go_by_a_rate(self) -> None:
-        self.assertIn("about 0.1 MB and 90 seconds", self.script(("plain(a)",), "--rows-a-second", "100"))
+        self.assertIn("about 0.1 MB, 90 seconds", self.script(("plain(a)",), "--rows-a-second", "100"))
 
 
 if __name__ == "__main__":

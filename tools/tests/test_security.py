@@ -55,6 +55,8 @@ class Attacks(OverPrey):
         ):
             self.assertRegex(told, rf"(public\.)?{re.escape(name)}[^;]* of app")
         self.assertIn("evil.same(", told)
+        what = "; they have this role's rights: look at their code, unless you trust their owners\n"
+        self.assertEqual(told.count(what), 1, told)
         self.assertRegex(ran.stdout, r"statement [^:]*: not explained: 42501 the role has no right to it")
 
     def test_no_plan_runs_what_only_a_write_would(self) -> None:

@@ -45,7 +45,13 @@ class Setup(InFolder):
     def test_it_makes_all_and_prints_the_next_command(self) -> None:
         self.server.psql("CREATE TABLE t AS SELECT generate_series(1, 300000) AS a", "odd")
         ran = self.call(self.server, "odd")
-        self.assertRegex(ran.stderr, r"\Acophy-pg: statements have been counted for .* alone: a working day.*\n\Z")
+        extensions = (
+            "the extension hypopg and its schema hypopg, the extension pg_stat_statements and its schema counted"
+        )
+        begin = f"cophy-pg: made: (the role cophy_advisor, )?{extensions}\n"
+        self.assertRegex(
+            ran.stderr, begin + r"cophy-pg: statements have been counted for .* alone: a working day.*\n\Z"
+        )
         first, command = ran.stdout.splitlines()
         self.assertEqual(first, "'odd' can be advised on, 1 statement is counted. Next:")
         begin, _, end = command.partition(" PGUSER=cophy_advisor ")
@@ -63,7 +69,9 @@ class Setup(InFolder):
         self.assertEqual(self.server.value(homes, "odd"), "hypopg in hypopg, pg_stat_statements in counted")
         # Here each role connects without a password, so none is made.
         self.assertFalse((self.folder / ".pgpass").exists())
-        self.assertEqual(self.call(self.server, "odd").stdout.splitlines()[1:], [command])
+        again = self.call(self.server, "odd")
+        self.assertEqual(again.stdout.splitlines()[1:], [command])
+        self.assertNotIn("made:", again.stderr)
 
     def test_it_counts_as_advise_does_and_itself_not_at_all(self) -> None:
         other = PrivateServer()
@@ -74,13 +82,26 @@ class Setup(InFolder):
         other.psql("SELECT counted.pg_stat_statements_reset()", "odd")
         other.psql("SELECT a FROM t WHERE a = 3; SELECT a FROM t WHERE a > 3; SHOW work_mem", "odd")
         # That which began to count anew is counted too.
-        self.assertIn(", 3 statements are counted. Next:\n", self.call(other, "odd").stdout)
+        ran = self.call(other, "odd")
+        self.assertIn(", 3 statements are counted. Next:\n", ran.stdout)
+        made = "cophy-pg: made: the role cophy_advisor, the extension hypopg and its schema hypopg\n"
+        self.assertIn(made, ran.stderr)
         words = ("advise", "--budget", "9MB", "--folder", str(self.folder / "found"), "--no-curve")
         more = {"PGUSER": "cophy_advisor", "COPHY_PROGRAM": str(STAND_IN)}
         ran = called(other, *words, database="odd", **more)
         self.assertEqual(ran.returncode, 0, ran.stderr)
         details = (self.folder / "found" / "details.txt").read_text()
         self.assertIn(" database 'odd', 2 of 3 statements counted with ", details)
+        own = "SELECT count(*) FROM counted.pg_stat_statements WHERE userid = 'cophy_advisor'::regrole"
+        self.assertEqual(other.value(own, "odd"), "0")
+        # What the role ran where it was counted is none of the workload either.
+        other.psql("ALTER ROLE cophy_advisor RESET pg_stat_statements.track")
+        other.psql("SELECT count(a) FROM t WHERE a < 7", "odd", PGUSER="cophy_advisor")
+        self.assertNotEqual(other.value(own, "odd"), "0")
+        names = self.in_folder("c.toml", "w.sql")
+        ran = called(other, "export", *names, database="odd", PGUSER="cophy_advisor")
+        self.assertEqual(ran.returncode, 0, ran.stderr)
+        self.assertNotIn("count", (self.folder / "w.sql").read_text())
 
     def test_what_it_made_is_taken_back_as_the_page_says(self) -> None:
         other = PrivateServer()

@@ -68,12 +68,19 @@ class Unfinished(OverShop):
                 self.assertEqual((command[:2], "--include" in command), ([str(TOOL), "ddl"], bool(more)))
                 self.assertEqual(command[-2:], [">", f"{self.found}/indexes.sql"])
                 self.assertIn('ON "sales"."orders" ("total")', self.call(*command[1:-2]).stdout)
+                for later in (["effect"], ["report"], ["changes", str(self.found)]):
+                    ran = self.call(*later, str(self.found), status=1)
+                    anew = f"{self.found}: this advice was broken off, or isn't done yet; anew: cophy-pg advise shop --folder "
+                    self.assertIn(anew, ran.stderr)
+                    again = ran.stderr.partition("didn't judge: cophy-pg ")[2]
+                    self.assertIn('ON "sales"."orders" ("total")', self.call(*shlex.split(again)).stdout)
             held.unlink(missing_ok=True)
         self.call(*words[1:], COPHY_PROGRAM=str(STAND_IN))
         self.assertFalse((self.found / "unfinished.txt").exists())
 
     def test_it_is_told_once_where_there_was_no_time_for_all_exchanges(self) -> None:
         words = ["advise", "--sql", str(self.sql), "--budget", "20MB", "--folder", str(self.found), "--json"]
+        words += ["--patience", "99999"]
         given = self.server.environment("shop", PGUSER="cophy_advisor", COPHY_PROGRAM=str(STAND_IN))
         ran = subprocess.run(
             ["/usr/bin/python3", "-IB", "-c", LATE, *words], capture_output=True, text=True, env=given, timeout=LONG
@@ -84,6 +91,24 @@ class Unfinished(OverShop):
         self.assertEqual((self.found / "details.txt").read_text().count(f"warning: {cut}\n"), 1)
         found = self.call(*words, COPHY_PROGRAM=str(STAND_IN)).stdout
         self.assertNotIn(cut, json.loads(found)["warnings"])
+
+    def test_what_refines_ends_with_the_patience_and_what_stands_is_finished(self) -> None:
+        self.sql.write_text("SELECT id FROM sales.orders WHERE total = 17.75 ORDER BY id;\nSELECT 1 FROM pg_class;\n")
+        words = ["advise", "--sql", str(self.sql), "--budget", "20MB", "--folder", str(self.found)]
+        told = "refining the advice was cut after 0 seconds: --patience SECONDS goes on longer"
+        texts = list[str]()
+        for more in (["--patience", "0"], list[str]()):
+            ran = self.call(*words, *more, COPHY_PROGRAM=str(STAND_IN))
+            self.assertEqual(ran.returncode, 0, ran.stderr)
+            document = json.loads((self.found / "advice.json").read_text())
+            self.assertEqual(told in document["warnings"], bool(more))
+            self.assertEqual((self.found / "curve.json").exists(), not more)
+            self.assertEqual(f"warning: {told}\n" in ran.stdout, bool(more))
+            self.assertEqual(f"warning: {told}\n" in (self.found / "details.txt").read_text(), bool(more))
+            for it in ("certificate", "check.txt", "verify.json", "indexes.sql", "report.html", "summary.txt"):
+                self.assertTrue((self.found / it).exists(), it)
+            texts.append((self.found / "indexes.sql").read_text())
+        self.assertIn('ON "sales"."orders" ("total"', texts[0])
 
 
 if __name__ == "__main__":

@@ -43,7 +43,7 @@ _cophy_pg() {
     case "$command" in
         advise | daily)
             if [ "$command" = daily ]; then options+=" --keep"; fi
-            options+=" --budget --folder --since --min-calls --min-saving --planning --rules --long-columns --most-per-table --no-curve --table --user --nodes --sql --log"
+            options+=" --budget --folder --since --min-calls --min-saving --planning --rules --long-columns --most-per-table --no-curve --patience --table --user --nodes --sql --log"
             options+=" --may-cluster --include --verbose"
             options+="$rewriting --dsn --timeout --i-trust-the-statements --program --json"
             ;;

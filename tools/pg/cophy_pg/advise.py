@@ -45,7 +45,7 @@ from cophy_pg.rewrite import Rewriter
 from cophy_pg.rewrite.options import options_of
 from cophy_pg.rounds import Rounds
 from cophy_pg.schema import Schema
-from cophy_pg.searches import CUT, Rules, Searches, listed_in
+from cophy_pg.searches import CUT, Rules, Searches, listed_in, refined_for
 from cophy_pg.selection import ran_once, selection_of
 from cophy_pg.server import Server, connected, reading, version_of
 from cophy_pg.sizes import SIZE, stored_size
@@ -118,7 +118,7 @@ class Run:
         paths = (kept.path(folder.CATALOGUE), kept.path(folder.WORKLOAD))
         self.program = Program(words.program, *paths)
         nodes = ("--nodes", str(words.nodes)) if words.nodes else ()
-        self.searches = Searches(self.program, kept, words.budget, nodes, steps)
+        self.searches = Searches(self.program, kept, words.budget, nodes, steps, patience=words.patience)
         self.rules = Rules()
         self.head: dict[str, Any] = {}
         self.owners: dict[str, str] = {}
@@ -146,7 +146,7 @@ class Run:
                 advice, proved = self.searches.proved(choice.advice.budget)
                 self.searches.keep(choice.advice.budget, choice.rules)
             with self.steps.step("curve", "searching for what other budgets buy"):
-                points = [] if self.words.no_curve else self.searches.curve()
+                points = [] if self.words.no_curve or self.searches.is_over() else self.searches.curve()
         finally:
             self.searches.clear()
         with self.steps.step("why", "pricing the workload without each pick", len(choice.advice.picks)):
@@ -176,7 +176,8 @@ class Run:
     def _warnings(self, workload: Workload, prices: Prices) -> list[str]:
         """What to warn of, by prices without picks. In a file of SQL a statement has the weight that it was given."""
         found = [*self.warnings, *self.rules.remarks, *([] if self.words.sql else ran_once(workload, prices))]
-        return found + [UNPROVED] * is_unproved(self.words.program) + [CUT] * self.searches.is_cut
+        cut = [CUT] * self.searches.is_cut + [refined_for(self.words.patience)] * self.searches.was_over
+        return found + [UNPROVED] * is_unproved(self.words.program) + cut
 
     def _asked(
         self, server: Server, schema: Schema, choice: Choice, verdicts: list[Verdict]
@@ -307,6 +308,7 @@ class Run:
                 "min_saving": words.min_saving,
                 "planning": words.planning,
                 "most_per_table": words.most_per_table,
+                "patience": words.patience,
                 "include": words.include,
                 "long_columns": words.long_columns,
                 "rules": words.rules,

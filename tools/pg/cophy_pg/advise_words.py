@@ -8,6 +8,7 @@ from cophy_pg.amounts import FIFTH, budget, whole
 from cophy_pg.clustering import add_clustering
 from cophy_pg.planning import MICROSECONDS
 from cophy_pg.program import add_program
+from cophy_pg.searches import PATIENCE
 from cophy_pg.selection import add_selection, count
 from cophy_pg.server import add_connection
 from cophy_pg.verify import add_trust
@@ -50,6 +51,14 @@ def add_words(parser: argparse.ArgumentParser) -> None:
         "--no-curve",
         action="store_true",
         help="don't search for what some other budgets would buy, which the report draws",
+    )
+    parser.add_argument(
+        "--patience",
+        type=seconds,
+        default=PATIENCE,
+        metavar="SECONDS",
+        help="how long the advice is refined after the first search: by further rounds with the server's planner, exchanges, "
+        f"fillings, and the curve ({PATIENCE:g}); then what stands is finished",
     )
     parser.add_argument("--nodes", type=whole, metavar="N", help="the node budget of the search")
     parser.add_argument("--json", action="store_true", help="print all that was found as JSON instead")
@@ -110,5 +119,12 @@ def percent(text: str) -> float:
 def microseconds(text: str) -> float:
     """A short time, at most a second."""
     if not 0 <= float(text) <= 1e6:
+        raise ValueError
+    return float(text)
+
+
+def seconds(text: str) -> float:
+    """A time from 0 on, at most a week."""
+    if not 0 <= float(text) <= 7 * 86400:
         raise ValueError
     return float(text)

@@ -32,6 +32,7 @@ SELECT NOT EXISTS (SELECT FROM pg_catalog.pg_roles WHERE rolname = 'cophy_adviso
        :'statements' = 'counted' AND NOT EXISTS (
            SELECT FROM pg_catalog.pg_extension WHERE extname = 'pg_stat_statements') AS makes_statements,
        EXISTS (SELECT FROM pg_catalog.pg_namespace WHERE nspname = 'counted') AS has_counted,
+       EXISTS (SELECT FROM pg_catalog.pg_extension WHERE extname = 'hypopg') AS has_hypopg,
        current_setting('server_version_num')::int >= 140000 AS has_read_all \gset
 BEGIN;
 
@@ -49,6 +50,13 @@ END $$;
 \endif
 ALTER ROLE cophy_advisor NOSUPERUSER NOCREATEDB NOCREATEROLE NOREPLICATION NOBYPASSRLS CONNECTION LIMIT 4;
 ALTER ROLE cophy_advisor SET default_transaction_read_only TO on;
+-- Its own statements would fill pg_stat_statements.
+DO $$
+BEGIN
+    ALTER ROLE cophy_advisor SET pg_stat_statements.track TO 'none';
+EXCEPTION WHEN insufficient_privilege OR undefined_object THEN
+    NULL;
+END $$;
 GRANT CONNECT ON DATABASE :"DBNAME" TO cophy_advisor;
 -- The statements of all roles in pg_stat_statements.
 GRANT pg_read_all_stats TO cophy_advisor;
@@ -116,5 +124,14 @@ CROSS JOIN (SELECT pg_catalog.regexp_match(pg_catalog.current_setting('data_dire
     \warn '    sudo -u postgres psql -p' :PORT '-c "ALTER SYSTEM SET shared_preload_libraries =' :wanted'"'
     \warn '    sudo systemctl restart' :service
     \warn 'Then let the application run for a working day, or for one round of all that matters.'
+\endif
+SELECT pg_catalog.concat_ws(', ', CASE WHEN :'is_new' THEN 'the role cophy_advisor' END,
+           CASE WHEN NOT :'has_hypopg' AND EXISTS (SELECT FROM pg_catalog.pg_extension WHERE extname = 'hypopg')
+               THEN 'the extension hypopg and its schema hypopg' END,
+           CASE WHEN :'makes_statements' THEN pg_catalog.concat('the extension pg_stat_statements',
+               CASE WHEN NOT :'has_counted' THEN ' and its schema counted' END) END) AS made \gset
+SELECT :'made' <> '' AS is_made \gset
+\if :is_made
+    \echo made: :made
 \endif
 \echo the role cophy_advisor is ready in :DBNAME

@@ -66,11 +66,17 @@ def room_in(asked: int) -> int:
     return asked - asked // SPARED
 
 
-def filled(asked: int, advise: Callable[[int], Advice], size_of: Callable[[Advice], int]) -> Advice:
-    """The advice for the budget at which the space is filled best. It takes at most that, as PostgreSQL stores it."""
+def filled(
+    asked: int,
+    advise: Callable[[int], Advice],
+    size_of: Callable[[Advice], int],
+    goes_on: Callable[[], bool] = lambda: True,
+) -> Advice:
+    """The advice for the budget at which the space is filled best. It takes at most that, as PostgreSQL stores it. Once it goes
+    on no more, the first that fits is enough."""
     search = Search(room_in(asked))
     budget: int | None = asked
-    while budget is not None and len(search.tried) < MOST_TRIES:
+    while budget is not None and len(search.tried) < MOST_TRIES and (search.best is None or goes_on()):
         advice = advise(budget)
         if search.add(advice, size_of(advice)):
             break
@@ -80,7 +86,7 @@ def filled(asked: int, advise: Callable[[int], Advice], size_of: Callable[[Advic
     found = search.best.budget
     for percent in FURTHER:
         budget = found * percent // 100
-        if budget not in search.tried and budget <= WIDEST * asked:
+        if budget not in search.tried and budget <= WIDEST * asked and goes_on():
             advice = advise(budget)
             search.add(advice, size_of(advice))
     return search.best

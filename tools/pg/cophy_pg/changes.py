@@ -37,7 +37,7 @@ class Found:
         """What a folder holds."""
         kept = Folder(name)
         try:
-            document = json.loads(kept.read(folder.RESULT))
+            document = json.loads(kept.result())
             if document["version"] != 1:
                 raise ValueError
         except (ValueError, TypeError, KeyError, RecursionError):

@@ -3,6 +3,7 @@ from __future__ import annotations
 
 import os
 import re
+import shlex
 import stat
 from collections.abc import Iterator
 from contextlib import contextmanager, suppress
@@ -28,6 +29,7 @@ EFFECT = "effect.json"
 
 
 _NAME = re.compile(r"cophy-advice-\d{8}-\d{6}")
+_OF = re.compile(rb"# The database '([A-Za-z0-9_]+)', exported by")
 
 
 class Folder:
@@ -52,9 +54,10 @@ class Folder:
 
     @staticmethod
     def last() -> Folder:
-        """The last one here that has such a name and an advice."""
-        here = (it for it in os.listdir() if _NAME.fullmatch(it) and Folder(it).has(RESULT))
-        name = max((it for it in here if os.lstat(it).st_uid == os.geteuid()), default=None)
+        """The last one here that has such a name and an advice, or else that was broken off."""
+        here = [it for it in os.listdir() if _NAME.fullmatch(it) and os.lstat(it).st_uid == os.geteuid()]
+        begun = max((it for it in here if Folder(it).has(CATALOGUE)), default=None)
+        name = max((it for it in here if Folder(it).has(RESULT)), default=begun)
         if name is None:
             raise NoFile("no folder of advise is here: name it")
         return Folder(name)
@@ -80,6 +83,18 @@ class Folder:
     def read(self, name: str) -> bytes:
         """What a file in it holds."""
         return files.read(self.path(name))
+
+    def result(self) -> bytes:
+        """What `advise` found; where it was broken off, that is told, with what begins it anew."""
+        if self.has(RESULT) or not self.has(CATALOGUE):
+            return self.read(RESULT)
+        known = _OF.match(self.read(CATALOGUE))
+        told = f"{shown(self.name)}: this advice was broken off, or isn't done yet; anew: cophy-pg advise "
+        told += f"{known[1].decode() if known else 'DATABASE'} --folder {shlex.quote(self.name)}"
+        if self.has(UNFINISHED):
+            words = shlex.join(["ddl", self.path(CATALOGUE), self.path(UNFINISHED), "--script"])
+            told += f"; what its last search advised, which the server didn't judge: cophy-pg {words}"
+        raise NoFile(told)
 
     def has(self, name: str) -> bool:
         """Whether it has such a file."""

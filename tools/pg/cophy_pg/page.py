@@ -66,7 +66,7 @@ def page_of(kept: Folder) -> bytes:
     if jinja2 is None:
         raise NoReport("no report is written: python3-jinja2 isn't installed")
     try:
-        document, plans = json.loads(kept.read(folder.RESULT)), json.loads(kept.read(folder.PLANS))
+        document, plans = json.loads(kept.result()), json.loads(kept.read(folder.PLANS))
         if document["version"] != VERSION:
             raise ValueError
         points = json.loads(kept.read(folder.CURVE)) if kept.has(folder.CURVE) else []

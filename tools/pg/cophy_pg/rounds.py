@@ -6,8 +6,9 @@ from dataclasses import dataclass, replace
 from functools import partial
 
 from cophy_text.answers import Advice, Candidate, Prices
-from cophy_pg.beside import Beside
+from cophy_pg.beside import Beside, Trade
 from cophy_pg.choice import UNTAKEN, Choice, Limits, drop_by_limits, drop_by_server
+from cophy_pg.exchange import Exchange
 from cophy_pg.outcomes import Verdict, outcomes
 from cophy_pg.picks import home_of
 from cophy_pg.planning import COSTLY, Planning, costly_picks
@@ -50,16 +51,20 @@ class Rounds:
 
     def best(self, server: Server, choice: Choice) -> tuple[Choice, Judged]:
         """Searches again without what no plan takes, which leaves room for others; the choice that costs the least by the
-        server's planner, and what it says of that. An older program doesn't search again."""
+        server's planner, and what it says of that. An older program doesn't search again. Once the time is up, a later round
+        is broken off."""
         best: tuple[Choice, Judged] | None = None
         least = (0, 0.0)
         for number in range(1, ROUNDS + 1):
-            judged = self._settle(server, choice)
+            judged = self._settle(server, choice, is_needed=best is None)
+            if judged is None:
+                break
             count, _, after = judged.sums()
             if best is None or (-count, after) < least:
                 best, least = (choice, judged), (-count, after)
-            if number == ROUNDS or not self.rules.forbid(choice.untaken):
+            if number == ROUNDS or not self.rules.forbid(choice.untaken) or self.searches.is_over():
                 break
+            self.searches.tell_rest_after(number, ROUNDS)
             try:
                 choice = self.searched(number + 1)
             except NoCommand:
@@ -89,35 +94,49 @@ class Rounds:
         self.searches.begin(ADDITIONS)
         for number in range(0 if self.words.min_saving else ADDITIONS):
             self.steps.begin(f"filling space that is left, round {number + 1} of at most {ADDITIONS}")
-            planning = Planning(self.schema, judged.verdicts, self.words.planning)
-            beside = Beside(choice, judged.verdicts, exchange, self.workload.divisor, planning.longer)
-            trades = []
-            for it in beside.narrower():
-                users = self.asked(server, beside.with_trade(it), beside.users(it)).verdicts
-                trades.append(beside.priced(it, users))
-            asked = beside.asked_about(trades)
-            if asked is None:
+            added = None if self.searches.is_over() else self._added(server, choice, judged, exchange)
+            if added is None:
                 break
-            found = self.asked(server, asked, judged.verdicts).verdicts
-            chosen = beside.better(found, trades)
-            if chosen == beside.chosen:
-                break
-            try:
-                advice, rules = self.searches.made_of(chosen, self.rules)
-            except NoCommand:
-                break
-            more = Choice(advice, [*choice.left_out], rules=rules)
-            again = self._settle(server, more, judged.verdicts)
-            if again.sums()[0] < judged.sums()[0] or again.sums()[2] >= judged.sums()[2]:
-                break
-            choice, judged = more, again
+            choice, judged = added
         return choice, judged
 
-    def _settle(self, server: Server, choice: Choice, known: list[Verdict] | None = None) -> Judged:
-        """Asks the planner until all picks that are left stay. Picks that were left out before are asked about no more."""
+    def _added(
+        self, server: Server, choice: Choice, judged: Judged, exchange: Exchange
+    ) -> tuple[Choice, Judged] | None:
+        """What comes of what the planner takes in the space that is left, and in the place of weak picks; nothing where it
+        says that none of this saves anything."""
+        planning = Planning(self.schema, judged.verdicts, self.words.planning)
+        beside = Beside(choice, judged.verdicts, exchange, self.workload.divisor, planning.longer)
+        trades = [self._priced(server, beside, it) for it in beside.narrower() if not self.searches.is_over()]
+        asked = beside.asked_about(trades)
+        if asked is None or self.searches.is_over():
+            return None
+        chosen = beside.better(self.asked(server, asked, judged.verdicts).verdicts, trades)
+        if chosen == beside.chosen:
+            return None
+        try:
+            advice, rules = self.searches.made_of(chosen, self.rules)
+        except NoCommand:
+            return None
+        more = Choice(advice, [*choice.left_out], rules=rules)
+        again = self._settle(server, more, judged.verdicts, is_needed=False)
+        if again and again.sums()[0] >= judged.sums()[0] and again.sums()[2] < judged.sums()[2]:
+            return more, again
+        return None
+
+    def _priced(self, server: Server, beside: Beside, trade: Trade) -> Trade:
+        """A trade with its loss by the planner."""
+        return beside.priced(trade, self.asked(server, beside.with_trade(trade), beside.users(trade)).verdicts)
+
+    def _settle(
+        self, server: Server, choice: Choice, known: list[Verdict] | None = None, is_needed: bool = True
+    ) -> Judged | None:
+        """Asks the planner until all picks that are left stay. Picks that were left out before are asked about no more. Once
+        the time is up, nothing comes of it, or where something is needed, what takes longer to plan than it saves stays.
+        """
         words = self.words
         limits = Limits(words.min_saving, words.most_per_table)
-        while True:
+        while is_needed or not self.searches.is_over():
             judged = self.asked(server, choice.advice, known)
             known = judged.verdicts
             with self.steps.step("limits", "leaving out what isn't worth it"):
@@ -126,11 +145,15 @@ class Rounds:
                 is_less |= drop_by_limits(choice, self.program, limits, self.steps, self.rules.asks_for, worth)
             if not is_less and not self._drop_costly(server, choice, judged.verdicts):
                 return judged
+        return None
 
     def _drop_costly(self, server: Server, choice: Choice, found: list[Verdict]) -> bool:
         """Leaves out what saves less time than planning and writing take longer for it; whether anything was."""
 
         def ask(picks: list[Candidate], listed: list[Verdict]) -> dict[int, Plan]:
+            # What isn't asked about stays.
+            if self.searches.is_over():
+                return {}
             return under(server, self.schema, replace(choice.advice, picks=picks), listed, self.steps)
 
         if not self.words.planning:

@@ -79,7 +79,7 @@ def _steps(schema: Schema, made: Made, speed: Speed) -> list[str]:
     """What makes a pick, or takes it back."""
     table, about = _table(schema, made), "by an index that is there"
     if made.indexes:
-        about = f"about {space(stored_pages(schema, made.pick) or made.pick.pages)} and {speed.of_index(table)}"
+        about = f"about {space(stored_pages(schema, made.pick) or made.pick.pages)}, {speed.of_index(table)}"
     say = f"\\echo '{made.place}: {made.pick.shown()}, {about}'"
     if table.is_partitioned:
         return _alone(made, _undo_parts(table, made), [say, *_make_parts(table, made), *made.analyses])

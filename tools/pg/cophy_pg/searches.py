@@ -35,7 +35,12 @@ EXCHANGING, FIRST_SECONDS, LATER_SECONDS = "comparing with other sets of indexes
 """Picks are exchanged for so long in the first round, or for as long as was searched before, and so long in each later one."""
 LIKE_SEARCHES, SLOW = 40, 0.2
 """After the first search all takes about as long as so many, and where it took so many seconds, exchanges take all their time."""
+PATIENCE = 180.0
+"""So many seconds after the first search what is left of rounds, exchanges, fillings and the curve is passed over."""
+FILLINGS, ENDING = 1.0, 0.3
+"""What fillings and the curve take about, and what all that follows them, of what a round takes."""
 CUT = "picks were exchanged for others for a limited time only, so others may cost less in the same space"
+OVER = "refining the advice was cut"
 POINTS, FIRST = 3, 3
 """How many points a curve has where it bends, and where its first picks come in, beside those that were searched for anyhow."""
 
@@ -120,8 +125,11 @@ class Searches:
     """Whether the first round was searched."""
     is_cut: bool = False
     """Whether there wasn't time for all exchanges."""
-    is_told: bool = False
-    """Whether it was told how long all takes."""
+    patience: float = math.inf
+    begun: float = math.inf
+    """When the first search was done."""
+    was_over: bool = False
+    """Whether something was passed over since the time was up."""
 
     def filling(self, schema: Schema, rules: Rules) -> tuple[Advice, str]:
         """The advice that fills the budget as PostgreSQL stores it, and the rules that it is found under: where other picks cost
@@ -137,7 +145,7 @@ class Searches:
             self._tell_rest(self.clock() - since)
             return tried[-1]
 
-        found = filled(self.asked, advised, lambda it: stored_size(schema, it.picks))
+        found = filled(self.asked, advised, lambda it: stored_size(schema, it.picks), lambda: not self.is_over())
         # Where the run is broken off, this is left of it.
         text = self.ruled[found.budget, lines] if lines else self.texts[found.budget]
         self.kept.write({folder.UNFINISHED: text})
@@ -145,7 +153,7 @@ class Searches:
         seconds = LATER_SECONDS if self.is_later else max(FIRST_SECONDS, self.clock() - begun)
         exchange, self.is_later = self.exchange(schema, rules, seconds), True
         better = self._exchanged(exchange, found, tried)
-        self.is_cut |= exchange.is_cut
+        self.is_cut |= exchange.is_cut and not self.is_over()
         if better is None or self._prices().cost(better) >= found.cost:
             return found, lines
         try:
@@ -155,10 +163,23 @@ class Searches:
 
     def _tell_rest(self, seconds: float) -> None:
         """Tells once, by how long the first search took, about how long all other steps take."""
-        if not self.is_told:
-            self.is_told = True
+        if self.begun == math.inf:
+            self.begun = self.clock()
             rest = LIKE_SEARCHES * seconds + FIRST_SECONDS * min(1.0, seconds / SLOW)
-            self.progress.tell_rest("by the first search", rest)
+            self.progress.tell_rest("by the first search", min(rest, self.patience))
+
+    def tell_rest_after(self, rounds: int, most: int) -> None:
+        """Tells anew, by how long so many rounds took, about how long all that is left takes where it takes all rounds."""
+        passed = self.clock() - self.begun
+        each = passed / rounds
+        rest = min((most - rounds + FILLINGS) * each, max(0.0, self.patience - passed)) + ENDING * each
+        self.progress.tell_rest(f"by {counted(rounds, 'round')} of at most {most}", rest)
+
+    def is_over(self) -> bool:
+        """Whether the time is up, so that what is asked about is passed over."""
+        is_over = self.clock() - self.begun >= self.patience
+        self.was_over |= is_over
+        return is_over
 
     def made_of(self, chosen: Chosen, rules: Rules) -> tuple[Advice, str]:
         """The advice that has just these picks, and the rules that it is found under."""
@@ -197,7 +218,7 @@ class Searches:
     def exchange(self, schema: Schema, rules: Rules, seconds: float = math.inf) -> Exchange:
         """Exchanges candidates, clustered ones too, that rules don't speak of: what these ask for or forbid stays so. It
         tells how many sets were priced, and stops after some seconds."""
-        end, prices = self.clock() + seconds, self._prices()
+        end, prices = min(self.clock() + seconds, self.begun + self.patience), self._prices()
         before = prices.calls
 
         def goes_on() -> bool:
@@ -249,11 +270,13 @@ class Searches:
         self.begin(2 + FIRST + POINTS)
         most = self._at(MOST_PAGES)
         known = {it: read_advice(text) for it, text in self.texts.items() if it < most.size}
-        known |= {it: self._at(it) for it in (0, *self._begins(most)) if it < most.size or not it}
+        known |= {
+            it: self._at(it) for it in (0, *self._begins(most)) if not it or it < most.size and not self.is_over()
+        }
         last = [replace(most, budget=most.size)] if most.size else []
         found = sorted([*known.values(), *last], key=lambda it: it.budget)
         wanted = len(found) + POINTS
-        while len(found) < wanted and (budget := between(found)) is not None:
+        while len(found) < wanted and (budget := between(found)) is not None and not self.is_over():
             found = sorted([*found, self._at(budget)], key=lambda it: it.budget)
         return found
 
@@ -261,7 +284,7 @@ class Searches:
         """The budgets at which the first picks come in: the sizes of those that save the most a page, one after the other."""
         prices, pages = self._prices(), {it.number: it.pages for it in advice.picks}
         chosen, found = frozenset[int](), list[int]()
-        while len(found) < FIRST and (left := [it for it in pages if it not in chosen]):
+        while len(found) < FIRST and (left := [it for it in pages if it not in chosen]) and not self.is_over():
             costs = prices.costs(chosen, [chosen | {it} for it in left])
             now = prices.cost(chosen)
             best = max(zip(costs, left), key=lambda it: ((now - it[0]) / max(1, pages[it[1]]), -it[1]))[1]
@@ -279,6 +302,11 @@ class Searches:
     def clear(self) -> None:
         """Takes away what is left of certificates."""
         self.kept.clear(*self.trials)
+
+
+def refined_for(patience: float) -> str:
+    """What is said where the time was up."""
+    return f"{OVER} after {counted(round(patience), 'second')}: --patience SECONDS goes on longer"
 
 
 def listed_in(rules: str) -> list[str]:

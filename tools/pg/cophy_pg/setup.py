@@ -26,6 +26,8 @@ from cophy_pg.server import OWN, UNKNOWN, Server, ServerFault, connected, databa
 
 SCRIPT = Path(__file__).resolve().parent / "advisor_role.sql"
 ROUNDS = 4096
+MADE = "made: "
+"""What a line of the script begins with that says what it made."""
 HYPOPG = (
     "the extension hypopg is missing: install it (apt-get install postgresql-NN-hypopg, NN being the server's version)"
 )
@@ -73,10 +75,10 @@ def setup(words: argparse.Namespace) -> int:
 
 
 def _run(superuser: list[str], environment: dict[str, str], text: str) -> None:
-    """Hands a script to psql, whose standard output says nothing that isn't said here. Its status 2 says that it didn't connect."""
+    """Hands a script to psql, of whose standard output what it made is told. Its status 2 says that it didn't connect."""
     given = [*superuser, "-X", "-q", "-v", "statements=counted", "-v", "ON_ERROR_STOP=1"]
     try:
-        how = {"stdout": subprocess.DEVNULL, "stderr": subprocess.PIPE, "env": environment, "errors": "replace"}
+        how = {"stdout": subprocess.PIPE, "stderr": subprocess.PIPE, "env": environment, "errors": "replace"}
         ran = subprocess.run(given, input=text, text=True, check=False, **how)  # type: ignore[call-overload]
     except OSError as fault:
         raise NoInput(f"{given[0]}: {fault.strerror}") from None
@@ -84,6 +86,8 @@ def _run(superuser: list[str], environment: dict[str, str], text: str) -> None:
         host, port = environment.get("PGHOST", ""), os.environ.get("PGPORT") or PORT
         raise NoInput(failed(superuser, environment, port, ran.stderr, host in ("", *LOCAL) or host.startswith("/")))
     sys.stderr.write(ran.stderr)
+    for it in (it for it in ran.stdout.splitlines() if it.startswith(MADE)):
+        say(it)
     if ran.returncode:
         raise NoInput(f"the superuser's script failed: {shlex.join(superuser)} answers with status {ran.returncode}")
 

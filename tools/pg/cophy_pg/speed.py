@@ -21,8 +21,9 @@ class Speed:
     pages: int = PAGES_A_SECOND
 
     def of_index(self, table: Table) -> str:
-        """How long an index over a table takes."""
-        return duration(table.rows / self.rows)
+        """How long an index over a table takes. Many of less than a second may take some together."""
+        seconds = table.rows / self.rows
+        return duration(seconds) if seconds >= 1 else "under a second"
 
     def seconds(self, table: Table, has_new: bool, is_laid: bool) -> float:
         """How many seconds a new index over a table and its parts takes, and to lay the rows anew."""

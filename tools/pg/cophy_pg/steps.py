@@ -10,10 +10,10 @@ from typing import Any
 from cophy_pg.progress import Progress
 
 try:
-    from rich import progress as bars
     from rich.console import Console
+    from cophy_pg.bars import Bars
 except ImportError:
-    bars = None  # type: ignore[assignment]
+    Bars = None  # type: ignore[assignment,misc]
 
 
 class Steps(Progress):
@@ -53,16 +53,10 @@ class Steps(Progress):
     @contextmanager
     def all(self) -> Iterator[Steps]:
         """Shows the bars until the end."""
-        if self.is_quiet or bars is None or not sys.stderr.isatty():
+        if self.is_quiet or Bars is None or not sys.stderr.isatty():
             yield self
             return
-        columns = (
-            bars.TextColumn("{task.description}", markup=False),
-            bars.BarColumn(),
-            bars.MofNCompleteColumn(),
-            bars.TimeElapsedColumn(),
-        )
-        with bars.Progress(*columns, console=Console(stderr=True)) as self.shown:
+        with Bars(Console(stderr=True)) as self.shown:
             try:
                 yield self
             finally:

@@ -27,7 +27,7 @@ from cophy_pg.hints import ALONE, hints_shown
 from cophy_pg.maker import maker_of
 from cophy_pg.overview import headline, measured, much_skipped, named, part_of, purpose, time_of, unhelped, user_of
 from cophy_pg.recommended import LITTLE
-from cophy_pg.searches import CUT, WELL_FILLED
+from cophy_pg.searches import CUT, OVER, WELL_FILLED
 from cophy_pg.speed import duration
 from cophy_pg.writes import told
 
@@ -224,7 +224,8 @@ def _rest(document: dict[str, Any], kept: Folder) -> list[str]:
         lines += [f"no index is advised for skipped statements with {much} of the {what}"]
     every = [*document["warnings"], *doubts_of(document)]
     warnings = [it for it in every if it != CUT]
-    shown = warnings if len(warnings) <= MOST_WARNINGS else [it for it in warnings if it.endswith(" leaves them out")]
+    few = len(warnings) <= MOST_WARNINGS
+    shown = [it for it in warnings if few or it.startswith(OVER) or it.endswith(" leaves them out")]
     lines += [f"warning: {it.partition('; ')[0]}" for it in shown]
     # That the time for exchanges was up is counted, but isn't worth a look alone.
     is_more = len(warnings) > len(shown)

@@ -122,7 +122,8 @@ def _explainer(server: Server, found: list[Verdict], is_trusted: bool) -> tuple[
     tables, every = look_up(server, found, is_trusted)
     functions = functions_of_users(server, every, tables) + replaceable(server)
     if functions:
-        say_once(f"PostgreSQL may run these functions of users while it plans: {'; '.join(functions)}")
+        told = f"PostgreSQL may run these functions of users while it plans: {'; '.join(functions)}"
+        say_once(f"{told}; they have this role's rights: look at their code, unless you trust their owners")
     return Explainer(server, Columns.read(server, tables)), functions
 
 
