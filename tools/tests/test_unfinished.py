@@ -69,10 +69,10 @@ class Unfinished(OverShop):
                 self.assertEqual(command[-2:], [">", f"{self.found}/indexes.sql"])
                 self.assertIn('ON "sales"."orders" ("total")', self.call(*command[1:-2]).stdout)
                 for later in (["effect"], ["report"], ["changes", str(self.found)]):
-                    ran = self.call(*later, str(self.found), status=1)
+                    refused = self.call(*later, str(self.found), status=1).stderr
                     anew = f"{self.found}: this advice was broken off, or isn't done yet; anew: cophy-pg advise shop --folder "
-                    self.assertIn(anew, ran.stderr)
-                    again = ran.stderr.partition("didn't judge: cophy-pg ")[2]
+                    self.assertIn(anew, refused)
+                    again = refused.partition("didn't judge: cophy-pg ")[2]
                     self.assertIn('ON "sales"."orders" ("total")', self.call(*shlex.split(again)).stdout)
             held.unlink(missing_ok=True)
         self.call(*words[1:], COPHY_PROGRAM=str(STAND_IN))
