@@ -213,13 +213,13 @@ class Page(InFolder):
         self.document["left_out"].append(left_out)
         self.document["rules"] = ["never t(c)", "must t(b)", "must t(d)"]
         self.document["picks"][0] |= {"long": ["b"], "clustered": False, "outcome": "taken"}
-        self.document["picks"][0]["saves"] |= {"ours": 27.0, "server": 3.3}
+        self.document["picks"][0]["saves"] |= {"ours": 27.0, "server": 0.7}
         self.document["doubts"] = ["the advice stands unless you distrust 'app'"]
         self.write()
         text = self.page()
         self.assertIn("never t(c)\nmust t(b)\nmust t(d)  (left out then: it saves 0.2 %)</pre>", text)
         self.assertIn("<li>the advice stands unless you distrust &#39;app&#39;</li>", text)
-        self.assertIn('<p class="bad">The server saves 3.3 %: probably not worth 0.2 MB.</p>', text)
+        self.assertIn('<p class="bad">The server saves 0.7 %: probably not worth 0.2 MB.</p>', text)
         self.assertIn('<p class="bad">With it an INSERT of more than 2,704 bytes in b would fail.</p>', text)
         raw = (self.folder / "report.html").read_text()
         self.assertIn("<b>27.0\N{NO-BREAK SPACE}%</b> by our model", raw)

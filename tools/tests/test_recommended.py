@@ -50,7 +50,7 @@ class Recommended(unittest.TestCase):
             ),
             (pick(1, 0, 0, saves=timed | {"planned": 0.9}), ""),
             (pick(1, 0.4, 0.9), "it saves 0.9 % at most, by any measure"),
-            (pick(1, 27.0, 3.3), "the server saves 3.3 %: probably not worth 1.0 MB"),
+            (pick(1, 27.0, 0.7), "the server saves 0.7 %: probably not worth 1.0 MB"),
             (pick(1, 14.0, 20.0, changes=charged), "writes take 53.3 % of what it saves"),
             (pick(1, 0.0, 20.0, changes=little), ""),
             (pick(1, 20.0, 0.0, outcome="unknown"), "whether plans take it isn't known"),
@@ -133,8 +133,8 @@ class Recommended(unittest.TestCase):
         given = document("/advice")
         self.assertNotIn("ot recommended", page_text(given, plans(), None))
         pick = given["picks"][0] | {"clustered": False, "outcome": "taken", "notes": []}
-        saves = {"saves": {"ours": 27.0, "server": 3.3, "measured": None, "cost_without": 4500000}}
-        why = "the server saves 3.3 %: probably not worth 0.2 MB"
+        saves = {"saves": {"ours": 27.0, "server": 0.7, "measured": None, "cost_without": 4500000}}
+        why = "the server saves 0.7 %: probably not worth 0.2 MB"
         given["picks"] = [pick | saves | {"columns": ["c"], "caveat": why}, pick]
         given |= {"recommended": {"picks": 1, "stored_pages": 640, "cost": 4500000, "server_cost": 2700.0}}
         text = page_text(given, plans(), None).replace("\N{NO-BREAK SPACE}", " ")
@@ -152,7 +152,7 @@ class Recommended(unittest.TestCase):
         self.assertNotIn("<h3>2.", made)
         self.assertIn("<h3>2. t(c)</h3>", others)
         self.assertNotIn("<h3>1.", others)
-        self.assertEqual(others.count("he server saves 3.3 %"), 1)
+        self.assertEqual(others.count("he server saves 0.7 %"), 1)
         with_all = "costs 1,800 by our model and 1,000 by the server's planner, and the indexes take 0.2 MB"
         self.assertIn(with_all, others)
 
