@@ -84,7 +84,9 @@ class Recommended(unittest.TestCase):
         # What saves more by the server, or by its planner of the measured time, stays, and what it can't judge.
         saves = {"ours": 0.0, "server": 1.0, "planned": 5.0}
         for more in (pick(0, 0.0, 5.0), pick(0, 0, 0, saves=saves), pick(0, 0.0, 1.0, clustered=True)):
-            self.assertEqual(why(more | {"begins": "'public'.'more'"}), "")
+            self.assertEqual(why(more | {"begins": "'public'.'more'", "key": "'public'.'t_pkey'"}), "")
+        # A row that its key finds is read at once, whatever else stands behind the key.
+        self.assertEqual(why(little | {"key": "'public'.'t_pkey'"}, 4), "'public'.'t_pkey' finds the row of each b")
         # Where all but a are only read, all have the same key.
         self.assertEqual(why(little, searched={"a"}), "")
         self.assertEqual(why(little, 1, {"a", "c"}), "t(a, b, c) serves it too")
@@ -186,6 +188,8 @@ class Superfluous(unittest.TestCase):
         found = [['"public"."first"', '"public"."same"'], [], ['"public"."first"'], [], []]
         self.assertEqual([it.superfluous for it in made], found)
         self.assertEqual([it.begins for it in made], ["", "", "", "'public'.'wide'", ""])
+        single = "'public'.'single'"
+        self.assertEqual([it.key for it in made], [single, "", "", "", ""])
 
 
 if __name__ == "__main__":

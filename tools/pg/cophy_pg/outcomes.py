@@ -53,8 +53,9 @@ class Verdict:
 @dataclass
 class Outcome:
     """A pick as `taken`, `not taken` or `unknown`, the latter with its reasons and the statements of each; `exists` is the
-    index of the server that has the pick's columns in its order, or begins with them, and `stored` the pages that PostgreSQL
-    takes for it; `superfluous` are indexes that serve nothing beside it, as they are written."""
+    index of the server that has the pick's columns in its order, `begins` one that begins with them, `key` a unique one over
+    the first alone, and `stored` the pages that PostgreSQL takes for it; `superfluous` are indexes that serve nothing beside
+    it, as they are written."""
 
     pick: Candidate
     name: str = "unknown"
@@ -62,6 +63,7 @@ class Outcome:
     reasons: dict[str, str] = field(default_factory=dict)
     exists: str = ""
     begins: str = ""
+    key: str = ""
     stored: int | None = None
     superfluous: list[str] = field(default_factory=list)
 

@@ -23,7 +23,7 @@ SELECT n.nspname::text, x.relname::text, i.indisclustered, i.indnkeyatts::int4,
             p(number, class, coll, way)
         JOIN pg_catalog.pg_attribute a ON a.attrelid = i.indrelid AND a.attnum = p.number
         JOIN pg_catalog.pg_opclass o ON o.oid = p.class
-        WHERE p.way <> 0 OR p.coll <> a.attcollation OR NOT o.opcdefault)
+        WHERE p.way <> 0 OR p.coll <> a.attcollation OR NOT o.opcdefault), i.indisunique
 FROM pg_catalog.pg_index i JOIN pg_catalog.pg_class x ON x.oid = i.indexrelid
 JOIN pg_catalog.pg_namespace n ON n.oid = x.relnamespace JOIN pg_catalog.pg_am m ON m.oid = x.relam
 JOIN pg_catalog.pg_class c ON c.oid = i.indrelid JOIN pg_catalog.pg_namespace s ON s.oid = c.relnamespace
@@ -117,13 +117,15 @@ def make(server: Server, schema: Schema, advice: Advice) -> tuple[list[Outcome],
 
 
 def _there(server: Server, table: Table, columns: list[str], new_keys: int, outcome: Outcome) -> str | None:
-    """The name of an index over these columns alone; another that begins with them is noted, and those with which their keys
-    begin. Where the rows don't lie in its order, it is the one of a clustered pick, of which plans show nothing."""
+    """The name of an index over these columns alone; another that begins with them is noted, a unique one
+    over the first alone, and those with which their keys begin. Where the rows don't lie in its order, it is the one of a clustered pick, of which plans show nothing."""
     same = ""
-    for schema, name, clusters, count, keys, may_go, is_plain in server.rows(_INDEXES, (table.schema, table.name)):
+    for schema, name, clusters, count, keys, may_go, is_plain, is_unique in server.rows(_INDEXES, (table.schema, table.name)):
         shown, is_same = f"{str(schema)!a}.{str(name)!a}", keys == columns and len(columns) <= int(count)
         if is_plain and not is_same and is_prefix(columns[:new_keys], columns, keys[: int(count)], keys):
             outcome.begins = outcome.begins or shown
+        if is_unique and is_plain and keys[: int(count)] == columns[:1] != columns:
+            outcome.key = outcome.key or shown
         if may_go and is_plain and len(keys) < len(columns) and keys == columns[:new_keys][: len(keys)]:
             outcome.superfluous.append(f"{quoted_name(str(schema))}.{quoted_name(str(name))}")
         lies = clusters or any(it.ordered and it.name == name for it in table.indexes)

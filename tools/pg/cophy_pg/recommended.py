@@ -60,7 +60,7 @@ def _cost_of(pick: dict[str, Any], document: dict[str, Any]) -> str:
 
 def served(pick: dict[str, Any], candidate: Candidate, others: Iterable[Candidate], searched: set[str] | None) -> str:
     """Which index of the server, or else of the others that are recommended the longest, serves what a pick serves that saves few
-    percent beside it; nothing where none does."""
+    percent beside it, or which finds the one row of each value of its first column; nothing where none does."""
     if not is_judged(pick) or by_server(pick)[0] >= FEW:
         return ""
 
@@ -73,8 +73,9 @@ def served(pick: dict[str, Any], candidate: Candidate, others: Iterable[Candidat
         if it.table == candidate.table and is_prefix(keys(candidate), candidate.columns, keys(it), it.columns)
     ]
     longest = max(serving, key=lambda it: len(keys(it)), default=None)
-    name = pick["begins"] or (longest.shown() if longest else "")
-    return f"{name} serves it too" if name else ""
+    if name := pick["begins"] or (longest.shown() if longest else ""):
+        return f"{name} serves it too"
+    return f"{pick['key']} finds the row of each {candidate.columns[0]}" if pick.get("key") else ""
 
 
 def without_caveats(

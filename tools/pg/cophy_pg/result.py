@@ -190,6 +190,7 @@ class Result:
             "owner": self.owners.get(reason.pick.table),
             "unknown_for": [f"{why}: {where}" if where else why for why, where in outcome.reasons.items()],
             "begins": outcome.begins or None,
+            "key": outcome.key or None,
             "superfluous": [*outcome.superfluous],
             **self._long(reason.pick),
         }
