@@ -113,17 +113,13 @@ def _told(schema: Schema, listed: list[Made], speed: Speed, unadvised: Sequence[
     size = space(sum(stored_pages(schema, it.pick) or it.pick.pages for it in making if it.indexes))
     time = duration(sum(speed.seconds(_table(schema, it), bool(it.indexes), it.laid is not None) for it in making))
     lines = [f"-- {counted(len(making), 'step')}, about {size} of indexes and {time}, made by cophy-pg {VERSION}."]
-    lines += [
-        "-- Each is made CONCURRENTLY: reads and writes go on. It waits for open transactions, 30 minutes at most."
-    ]
+    lines += ["-- CONCURRENTLY: reads and writes go on; waits for open transactions, 30 minutes at most each."]
     if any(it.laid is not None for it in making):
         lines += ["-- CLUSTER locks its table against all others, readers too."]
-    lines += [
-        "-- The owner of the tables runs it: psql -X -f FILE. After a fault or Ctrl-C run it again: it makes INVALID ones anew."
-    ]
-    lines += ["-- With -v undo=1 it drops what it made, and nothing else; -v without=N,N passes over these numbers."]
-    lines += ["-- What isn't recommended is made with -v all=1 alone."] * bool(unadvised)
-    lines += ["-- What follows makes these, and is else the same in each such script:"]
+    lines += ["-- For the owner of the tables: psql -X -f FILE. After a fault or Ctrl-C run it again: it makes INVALID ones anew."]
+    lines += ["-- -v undo=1 drops what it made, nothing else; -v without=N,N passes over numbers."]
+    lines += ["-- -v all=1 makes what isn't recommended too."] * bool(unadvised)
+    lines += ["-- It makes these, and is else the same in each such script:"]
     return [*lines, *(text for it in making for text in _listed(it))]
 
 
