@@ -147,7 +147,7 @@ class Advise(OverSql):
             short,
             r"\AMake these \d+ indexes: [0-9.]+ MB of the budget of 20\.0 MB\.\nThey save [\d.]+ % of the cost by the",
         )
-        self.assertRegex(short, r"\n 1\. +[\d.]+  +[\d.]+ %  sales_orders\(total\) +WHERE total = 17\.75\n")
+        self.assertRegex(short, r"\n 1\. +[\d.]+  +[\d.]+ %  sales\.orders\(total\) +WHERE total = 17\.75\n")
         self.assertLessEqual(len(short.split()), 180)
         before = (self.found / "details.txt").read_text()
         text = self.call(*words, "-v").stdout
@@ -268,7 +268,7 @@ class Advise(OverSql):
         script = (self.found / "indexes.sql").read_text()
         plain = self.call(*shlex.split(step)[1:]).stdout
         self.assertEqual(without_gains(script), plain)
-        self.assertRegex(script, r"(?m)^-- 1\. \w+\(.*\): saves [\d.]+ %, the most of \w+ ")
+        self.assertRegex(script, r"(?m)^-- 1\. [\w.]+\(.*\): saves [\d.]+ %, the most of \w+ ")
         self.assertIn(made["statements"][0], script)
         sizes = json.loads(self.call(*shlex.split(step)[1:], "--json").stdout)
         self.assertEqual(sizes["stored_size"], found["stored_pages"])

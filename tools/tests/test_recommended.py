@@ -60,6 +60,8 @@ class Recommended(unittest.TestCase):
             (pick(1, 0, 0, saves=costly | {"server": 2.0}), ""),
             (pick(1, 0, 0, saves=costly | {"server": 1.0, "planned": 2.0}), ""),
             (pick(1, 0, 0, saves=costly | {"server": 1.9, "cost_without": 9}), ""),
+            (pick(1, 1.5, 1.9, not_hot=["a"]), "UPDATEs of a can't be HOT with it, and the server saves 1.9 %"),
+            (pick(1, 1.5, 2.0, not_hot=["a"]), ""),
             (pick(1, 20.0, 10.0, long_likely=["a"]), "an INSERT of more than 2,704 bytes in a would fail"),
         ):
             with self.subTest(why=why):

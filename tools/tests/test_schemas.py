@@ -9,6 +9,7 @@ from fixtures import NO_PARSER
 if not NO_PARSER:
     from cophy_pg.inputs import Input
     from cophy_pg.rewrite import Options, Rewriter, Rewritten
+    from cophy_pg.schema import path_of
     from cophy_pg.workload import made
 
 
@@ -30,6 +31,16 @@ class Schemas(unittest.TestCase):
             with self.subTest(path=path):
                 self.assertEqual(self.rewritten("SELECT a FROM t", None, path).statements, [f"SELECT a\nFROM {shown}"])
         self.assertEqual(self.rewritten("SELECT a FROM u", None, ("public",)).statements, ["SELECT a\nFROM other_u"])
+
+    def test_it_is_shown_by_its_schema_where_names_are_plain(self) -> None:
+        self.assertEqual(path_of("wiki", "page", "wiki_page"), "wiki.page")
+        for schema, name, shown in (
+            ("public", "page", "page"),
+            ("wiki", "page", "wiki_page_2"),
+            ("wiki", "a'b", "wiki_a_b"),
+            ("Wiki", "page", "Wiki_page"),
+        ):
+            self.assertEqual(path_of(schema, name, shown), shown)
 
     def test_copy_and_insert_select_count_the_rows_that_they_wrote(self) -> None:
         for text in ("COPY t FROM STDIN", "INSERT INTO t SELECT a, b FROM u", "COPY t (a) FROM '/file'"):

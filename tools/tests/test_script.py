@@ -176,7 +176,7 @@ class Script(OverOwn):
             [*re.findall(r"^-- (\d\. \S+)$", text, re.MULTILINE)], ["1. parent(a)", "2. plain(a)", "3. plain(b)"]
         )
         said = self.run_script(text, "-v", "without=1, 3")
-        self.assertRegex(said, r"\A2: plain\(a\), .*\nnot made: 1\. parent\(a\), 3\. plain\(b\)\ndone\n\Z")
+        self.assertRegex(said, r"\A2: plain\(a\), .*\nnot made: 1, 3\ndone\n\Z")
         self.assertEqual(self.names(), ["plain_a_idx"])
         self.run_script(text)
         self.assertEqual(len(self.names()), 4)
@@ -280,9 +280,8 @@ class Script(OverOwn):
         text = self.script(("plain(a)", "plain(b)", "parted(kind, day)"), "--unadvised", "2,3")
         self.assertIn("-- 2. plain(b): not recommended\n", text)
         said = self.run_script(text)
-        others = r"2\. plain\(b\) \(not recommended\), 3\. parted\(kind, day\) \(not recommended\)\ndone\n\Z"
-        self.assertRegex(said, rf"\A1: .*\nnot made: {others}")
-        self.assertRegex(self.run_script(text, "-v", "without=1"), rf"not made: 1\. plain\(a\), {others}")
+        self.assertRegex(said, r"\A1: .*\ndone\n\Z")
+        self.assertRegex(self.run_script(text, "-v", "without=1"), r"\Anot made: 1\ndone\n\Z")
         self.assertEqual(self.names(), ["plain_a_idx"])
         self.assertNotIn("not made", self.run_script(text, "-v", "all=1"))
         self.assertEqual([it for it in self.names() if it.startswith("plain")], ["plain_a_idx", "plain_b_idx"])

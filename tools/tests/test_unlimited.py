@@ -8,7 +8,7 @@ from typing import Any
 
 from cophy_text.answers import Candidate
 from cophy_pg.schema import Column, Schema, Table
-from cophy_pg.unlimited import compared_columns, exceeding, likely, never, told, warning
+from cophy_pg.unlimited import compared_columns, exceeding, far_longer, likely, never, told, warning
 from fixtures import COPHY, NO_HYPOPG, OverOwn
 
 TABLES = """CREATE TABLE entry (id int PRIMARY KEY, entered int NOT NULL, title text, guid text, link text, kind varchar(20),
@@ -53,6 +53,7 @@ SELECT DISTINCT b FROM u, t x WHERE x.h NOT LIKE ?"""
         columns = schema.tables["public", "t"].columns
         columns["a"].type = columns["b"].type = "text"
         columns["b"].sizes, columns["c"].width = [9, 30], 40
+        self.assertEqual(far_longer(schema, picks[0]), ["b"])
         self.assertEqual([likely(schema, it) for it in picks[:3]], [["a"], ["a"], ["a"]])
         columns["c"].width = 400
         self.assertEqual(likely(schema, picks[0]), ["c", "a"])

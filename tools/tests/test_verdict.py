@@ -73,6 +73,9 @@ class Verdict(OverDocument):
         self.assertIn(wanted, self.verdict())
         picks[3]["long"] = []
         self.assertIn("INSERTs of over 2,704 bytes in t1.a will fail (index 1)", self.verdict())
+        # Where all values that are known are far shorter, only the details say so.
+        picks[1]["long_far"] = ["a"]
+        self.assertFalse([it for it in self.verdict() if it.startswith("INSERTs")])
         picks[1]["long"] = []
         self.assertFalse([it for it in self.verdict() if "bytes" in it])
 

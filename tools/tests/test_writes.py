@@ -43,7 +43,13 @@ class Writes(unittest.TestCase):
         # An UPDATE that has an index to keep has entries to add to all of its table.
         self.assertEqual(rows, [both, ("UPDATE", "u", 7, 2, 2, 1, []), ("UPDATE", "w", 6, 1, 1, 2, [])])
         line = "writes: INSERT and UPDATE of t have 2 indexes more to keep (4 to 6)"
-        self.assertEqual(told(found), [f"{line}, UPDATE of u has 2 indexes more to keep (1 to 3)"])
+        self.assertEqual(
+            told(found), [f"{line}, UPDATE of u has 2 indexes more to keep (1 to 3), writes of 1 table more"]
+        )
+        # Those are told first that can't be HOT any more.
+        rare = found[2] | {"not_hot": ["a"], "path": "s.w"}
+        told_first = told(sorted([*found[:2], rare], key=lambda it: not it["not_hot"]))[0]
+        self.assertIn("writes: UPDATE of s.w has 1 index more to keep (2 to 3; UPDATEs of a can't", told_first)
         self.assertEqual(told(found[2:]), ["writes: UPDATE of w has 1 index more to keep (2 to 3)"])
         self.assertEqual(told(writes_of(picks[2:3], TEXTS, CALLS, {})), [])
         often = writes_of(picks[:1], TEXTS, CALLS, {"t": (4, set())})

@@ -7,7 +7,7 @@ from dataclasses import dataclass
 from cophy_text import files
 from cophy_text.answers import Advice, Candidate, NoAnswer, read_advice, read_retuned
 from cophy_pg.included import key_count
-from cophy_pg.schema import Schema, Table, plain_name
+from cophy_pg.schema import Schema, Table, path_of, plain_name
 
 LONGEST = 63
 _PLAIN = re.compile(r"[ -~]*\Z")
@@ -94,6 +94,15 @@ class Made:
     def where(self) -> tuple[str, str]:
         """The table, where anything is made."""
         return self.laid.where if self.laid else self.indexes[0].where
+
+    @property
+    def path(self) -> str:
+        """The table as it is shown to people."""
+        return path_of(*self.where, self.pick.table) if self.indexes or self.laid else self.pick.table
+
+    def shown(self) -> str:
+        """The pick as it is shown to people."""
+        return self.path + self.pick.shown().removeprefix(self.pick.table)
 
     @property
     def analyses(self) -> list[str]:

@@ -140,6 +140,11 @@ def named(pick: dict[str, Any]) -> str:
     return f"{pick['table']}({', '.join(pick['columns'])}){' clustered' * pick.get('clustered', False)}"
 
 
+def told_as(pick: dict[str, Any]) -> str:
+    """A pick by the name of its table in PostgreSQL, where that is plain."""
+    return named({**pick, "table": pick.get("path") or pick["table"]})
+
+
 def gain_of(pick: dict[str, Any]) -> str:
     """What a pick saves, of the measured time where that is known, and the statement that gains the most, without literals."""
     user, saved = user_of(pick), f"saves {percent(saved_of(pick))}"

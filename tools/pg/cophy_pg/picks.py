@@ -118,9 +118,12 @@ def make(server: Server, schema: Schema, advice: Advice) -> tuple[list[Outcome],
 
 def _there(server: Server, table: Table, columns: list[str], new_keys: int, outcome: Outcome) -> str | None:
     """The name of an index over these columns alone; another that begins with them is noted, a unique one
-    over the first alone, and those with which their keys begin. Where the rows don't lie in its order, it is the one of a clustered pick, of which plans show nothing."""
+    over the first alone, and those with which their keys begin. Where the rows don't lie in its order, it is the one of a clustered pick, of which plans show nothing.
+    """
     same = ""
-    for schema, name, clusters, count, keys, may_go, is_plain, is_unique in server.rows(_INDEXES, (table.schema, table.name)):
+    for schema, name, clusters, count, keys, may_go, is_plain, is_unique in server.rows(
+        _INDEXES, (table.schema, table.name)
+    ):
         shown, is_same = f"{str(schema)!a}.{str(name)!a}", keys == columns and len(columns) <= int(count)
         if is_plain and not is_same and is_prefix(columns[:new_keys], columns, keys[: int(count)], keys):
             outcome.begins = outcome.begins or shown

@@ -7,7 +7,7 @@ from dataclasses import dataclass, field
 from typing import Any
 
 from cophy_text.answers import Candidate
-from cophy_text.shown import percent, share
+from cophy_text.shown import in_row, percent, share
 from cophy_pg.findings import is_prefix
 from cophy_pg.guesses import FEW, by_server, doubt_of, is_judged, warning_of
 from cophy_pg.included import key_count
@@ -17,7 +17,8 @@ LITTLE = 1
 """What an index has to save, in percent, by our model, by the server or of the measured time."""
 KINDS = ("ours", "server", "measured")
 LEAST_AGAINST = 2
-"""What one has to save by the server, in percent, where the workload costs less without it by our model."""
+"""What one has to save by the server, in percent, where the workload costs less without it by our model, or where UPDATEs that
+could be HOT can't be with it."""
 MOST_CHARGED = 0.5
 """Of what a pick saves at reading writes may take so much."""
 Costs = tuple[int, float]
@@ -47,7 +48,7 @@ def caveat_of(pick: dict[str, Any], document: dict[str, Any]) -> str:
     gained = max(saved, sum(max(0.0, it["ours"]) for it in pick["changes"]))
     if charged > MOST_CHARGED * gained and is_judged(pick):
         return f"writes take {share(charged, gained)} of what it saves"
-    return _cost_of(pick, document) or doubt_of(pick) or warning_of(pick, document)
+    return _cost_of(pick, document) or _hot_of(pick) or doubt_of(pick) or warning_of(pick, document)
 
 
 def _cost_of(pick: dict[str, Any], document: dict[str, Any]) -> str:
@@ -56,6 +57,14 @@ def _cost_of(pick: dict[str, Any], document: dict[str, Any]) -> str:
     if not is_judged(pick) or saved >= LEAST_AGAINST or pick["saves"]["cost_without"] >= document["cost"]["after"]:
         return ""
     return f"by our model the workload costs less without it, and {what}"
+
+
+def _hot_of(pick: dict[str, Any]) -> str:
+    """What there is to say of a pick that saves little by the server and lets UPDATEs be HOT no more."""
+    saved, what = by_server(pick)
+    if not is_judged(pick) or saved >= LEAST_AGAINST or not pick.get("not_hot"):
+        return ""
+    return f"UPDATEs of {in_row(pick['not_hot'])} can't be HOT with it, and {what}"
 
 
 def served(pick: dict[str, Any], candidate: Candidate, others: Iterable[Candidate], searched: set[str] | None) -> str:

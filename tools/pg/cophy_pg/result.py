@@ -18,10 +18,10 @@ from cophy_pg.outcomes import ORDINARY, Outcome
 from cophy_pg.plans import Plans
 from cophy_pg.recommended import LITTLE, Recommended, caveat_of, served
 from cophy_pg.rewrite.parse import without_literals
-from cophy_pg.schema import Schema
+from cophy_pg.schema import Schema, path_of
 from cophy_pg.sizes import stored_size
 from cophy_pg.speed import Speed
-from cophy_pg.unlimited import exceeding, likely
+from cophy_pg.unlimited import exceeding, far_longer, likely
 from cophy_pg.verify import Judged
 from cophy_pg.walks import walks_told
 from cophy_pg.why import Reason
@@ -81,7 +81,7 @@ class Result:
             },
             "server_cost": {"statements": count, "before": before, "after": after},
             "recommended": self._recommended(),
-            "writes": self._writes(),
+            "writes": self._writes([it for it in self.reasons if not self._caveat(it.pick.number)]),
             "proved": self.proved,
             "calls_divided_by": self.workload.divisor,
             **self.told,
@@ -131,14 +131,19 @@ class Result:
             "server_cost": server,
         }
 
-    def _writes(self) -> list[dict[str, Any]]:
-        """The writes that have more indexes to keep by what is recommended."""
+    def _writes(self, picks: list[Reason]) -> list[dict[str, Any]]:
+        """The writes that have more indexes to keep by some picks."""
         calls = Counter[int]()
         for it in self.workload.records:
             calls.update({at: it.input.calls for at in it.numbers})
-        advised = [it for it in self.reasons if not self._caveat(it.pick.number)]
         texts = [text for text, _ in self.workload.statements]
-        return writes_of(advised, texts, calls, self.indexes)
+        paths = {it.shown: path_of(it.schema, it.name, it.shown) for it in self.schema.tables.values()}
+        return [it | {"path": paths.get(it["table"])} for it in writes_of(picks, texts, calls, self.indexes)]
+
+    @cached_property
+    def _not_hot(self) -> dict[str, set[str]]:
+        """The columns of each table for whose indexes UPDATEs that could be HOT can't be, were all picks made."""
+        return {it["table"]: {*it["not_hot"]} for it in self._writes(self.reasons)}
 
     def plain_picks(self) -> list[dict[str, Any]]:
         """The picks, those that are recommended first, and of each those that save the most."""
@@ -192,18 +197,22 @@ class Result:
             "begins": outcome.begins or None,
             "key": outcome.key or None,
             "superfluous": [*outcome.superfluous],
+            "not_hot": [it for it in reason.pick.columns if it in self._not_hot.get(reason.pick.table, ())],
             **self._long(reason.pick),
         }
 
     def _long(self, pick: Candidate) -> dict[str, Any]:
         """The columns for whose long values an INSERT may fail, and those that have such by the statistics."""
-        return {"long": exceeding(self.schema, pick), "long_likely": likely(self.schema, pick)}
+        long = exceeding(self.schema, pick)
+        far = [it for it in far_longer(self.schema, pick) if it in long]
+        return {"long": long, "long_likely": likely(self.schema, pick), "long_far": far}
 
     def _made(self, pick: Candidate, taken: set[str]) -> dict[str, Any]:
         """How a pick or a hint is made, and what there is to say of that."""
         made = create(self.schema, pick, taken)
         return {
             "name": made.name,
+            "path": made.path,
             "statements": [*made.statements],
             "build_seconds": round(self._build(made), 3),
             "notes": self._notes(made),

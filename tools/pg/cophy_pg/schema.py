@@ -8,6 +8,8 @@ from dataclasses import dataclass, field
 
 from cophy_text.tokens import RESERVED
 
+_PLAIN = re.compile(r"[a-z][a-z0-9_]*")
+
 LONGEST_NAME = 64
 MOST_KEYS = 8
 SPARES = MOST_KEYS
@@ -158,6 +160,13 @@ def share_of(number: float) -> float:
 def quoted(name: str) -> str:
     """A name of the catalogue as a statement writes it."""
     return f'"{name}"' if name.upper() in RESERVED or not _NAME.match(name) else name
+
+
+def path_of(schema: str, name: str, shown: str) -> str:
+    """A table as it is shown to people: by its schema and its name, where these are plain and its name in the catalogue is made
+    of both, or else by that."""
+    is_plain = shown == f"{schema}_{name}" and _PLAIN.fullmatch(schema) and _PLAIN.fullmatch(name)
+    return f"{schema}.{name}" if is_plain else shown
 
 
 def plain_name(name: str) -> str:

@@ -56,22 +56,16 @@ def _text(
             *_about(schema, it, it.place in unadvised, gains.get(it.pick.shown(), "")),
             *_steps(schema, it, speed),
         ]
-    names = ",".join(written_text(_passed(it, it.place in unadvised)) for it in listed)
-    passed = [f"EXECUTE cophy_passed (ARRAY[{names}]);"] * bool(listed)
+    passed = [f"EXECUTE cophy_passed (ARRAY[{','.join(str(it.place) for it in listed)}]);"] * bool(listed)
     # Behind it stands what ends a membership of the owner.
     done = ":done" if listed else "done"
     return _marked("\n".join([*lines, "", STOP, TELL, *passed, f"\\echo {done}", ""]))
 
 
-def _passed(made: Made, is_unadvised: bool) -> str:
-    """How a pick that is passed over is named, without the blanks that the script adds."""
-    return f"{made.place}.{made.pick.shown().replace(', ', ',')}{'~(not~recommended)' * is_unadvised}"
-
-
 def _about(schema: Schema, made: Made, is_unadvised: bool, gain: str) -> list[str]:
     """The comment before a pick."""
     fails, told = warning(likely(schema, made.pick)), ["not recommended"] * is_unadvised + [gain] * bool(gain)
-    text = ": ".join([f"{made.place}. {made.pick.shown()}", *[", ".join(told)] * bool(told)])
+    text = ": ".join([f"{made.place}. {made.shown()}", *[", ".join(told)] * bool(told)])
     return [f"-- {it}" for it in [text, *[fails] * bool(fails)]]
 
 
@@ -80,7 +74,7 @@ def _steps(schema: Schema, made: Made, speed: Speed) -> list[str]:
     table, about = _table(schema, made), "by an index that is there"
     if made.indexes:
         about = f"about {space(stored_pages(schema, made.pick) or made.pick.pages)}, {speed.of_index(table)}"
-    say = f"\\echo '{made.place}: {made.pick.shown()}, {about}'"
+    say = f"\\echo '{made.place}: {made.shown()}, {about}'"
     if table.is_partitioned:
         return _alone(made, _undo_parts(table, made), [say, *_make_parts(table, made), *made.analyses])
     lines = _make(made, about)
@@ -116,7 +110,9 @@ def _told(schema: Schema, listed: list[Made], speed: Speed, unadvised: Sequence[
     lines += ["-- CONCURRENTLY: reads and writes go on; waits for open transactions, 30 minutes at most each."]
     if any(it.laid is not None for it in making):
         lines += ["-- CLUSTER locks its table against all others, readers too."]
-    lines += ["-- For the owner of the tables: psql -X -f FILE. After a fault or Ctrl-C run it again: it makes INVALID ones anew."]
+    lines += [
+        "-- For the owner of the tables: psql -X -f FILE. After a fault or Ctrl-C run it again: it makes INVALID ones anew."
+    ]
     lines += ["-- -v undo=1 drops what it made, nothing else; -v without=N,N passes over numbers."]
     lines += ["-- -v all=1 makes what isn't recommended too."] * bool(unadvised)
     lines += ["-- It makes these, and is else the same in each such script:"]
@@ -127,7 +123,7 @@ def _listed(made: Made) -> list[str]:
     """The statements of a pick as comments, the first few of many."""
     texts = [f"--   {printable(it)}" for it in made.statements]
     rest = len(texts) - MOST_LISTED
-    return texts if rest <= 0 else [*texts[:MOST_LISTED], f"--   and {rest} more of {printable(made.pick.shown())}"]
+    return texts if rest <= 0 else [*texts[:MOST_LISTED], f"--   and {rest} more of {printable(made.shown())}"]
 
 
 def _refuse(listed: list[Made]) -> str:
@@ -147,7 +143,7 @@ def _make(made: Made, about: str) -> list[str]:
     """The indexes that stand for a pick; the first one says what is made."""
     lines = []
     for index in made.indexes:
-        shown, said = map(written_text, (made.pick.shown(), about))
+        shown, said = map(written_text, (made.shown(), about))
         lines += [f"EXECUTE cophy_index ({_values(index)}, {made.place}, {shown}, {said},"]
         lines += [f"    {written_text(index.statement())}) \\gexec"]
         about = ""
@@ -241,4 +237,4 @@ def _refuse_other(made: Made) -> list[str]:
 
 def _fail(made: Made, why: str) -> str:
     """A statement that ends the script with an error."""
-    return f"DO 'BEGIN RAISE EXCEPTION ''the index {made.pick.shown()} {why}''; END';"
+    return f"DO 'BEGIN RAISE EXCEPTION ''the index {made.shown()} {why}''; END';"

@@ -43,6 +43,7 @@ SELECT :{{?undo}} AS is_undo \\gset
 \\else
     \\set without ''
 \\endif
+\\set asked :without
 \\if :{{?all}}
 \\elif :is_undo
 \\else
@@ -92,11 +93,11 @@ GO_ON, STOP = "\\set ON_ERROR_STOP :is_undo", "\\set ON_ERROR_STOP on"
 """What is made goes on to where a fault is told; what is dropped stops."""
 TELL = """DO 'BEGIN IF current_setting(''cophy.fault'') <> '''' THEN RAISE EXCEPTION ''%'', current_setting(''cophy.fault''); END IF; END';"""
 """Ends the script with what wasn't made."""
-PASSED = rf"""PREPARE cophy_passed (text[]) AS {OWN}
-SELECT 'not made: '||string_agg(regexp_replace(replace(name,'~',' '),'([.,])','\1 ','g'),', ') FROM unnest($1) name
-WHERE NOT :'is_undo' AND :'without'~('\m'||split_part(name,'.',1)||'\M') HAVING count(*)>0;
+PASSED = f"""PREPARE cophy_passed (int[]) AS {OWN}
+SELECT 'not made: '||string_agg(number::text,', ') FROM unnest($1) number
+WHERE NOT :'is_undo' AND number::text=ANY(string_to_array(replace(:'asked',' ',''),',')) HAVING count(*)>0;
 """
-"""Names what was passed over; a `~` in it stands for a blank."""
+"""Names the numbers that were to be passed over."""
 STATE = f"PREPARE cophy_state (text, text, text, text[]) AS {OWN}\n{_STATE};\n"
 # Each part of a partitioned table with its index and that of the part above, by names of at most 63 bytes.
 PARTS = f"""PREPARE cophy_parts (int, text, text, text, text) AS {OWN}

@@ -51,6 +51,17 @@ def _may_be_long(column: Column) -> bool:
     return not column.sizes and (column.type in TEXTS or FAR_LONGER * column.width >= ENTRY)
 
 
+def far_longer(schema: Schema, pick: Candidate) -> list[str]:
+    """Of the columns of a pick those of which all values that the statistics have are so short that one that exceeds an entry isn't
+    to be expected."""
+    try:
+        table, columns = names_of(schema, pick)
+    except NoIndex:
+        return []
+    listed = map(table.columns.__getitem__, columns)
+    return [it.shown for it in listed if it.sizes and max(it.sizes) * FAR_LONGER <= ENTRY]
+
+
 def warning(names: list[str]) -> str:
     """What happens with an index over such columns; nothing where there are none."""
     together = " together" * (len(names) > 1)

@@ -25,7 +25,7 @@ from cophy_pg.folder import Folder
 from cophy_pg.guesses import is_judged, saved_of, seconds_of
 from cophy_pg.hints import ALONE, hints_shown
 from cophy_pg.maker import maker_of
-from cophy_pg.overview import headline, measured, much_skipped, named, part_of, purpose, time_of, unhelped, user_of
+from cophy_pg.overview import headline, measured, much_skipped, part_of, purpose, time_of, told_as, unhelped, user_of
 from cophy_pg.recommended import LITTLE
 from cophy_pg.searches import CUT, OVER, WELL_FILLED
 from cophy_pg.speed import duration
@@ -126,7 +126,7 @@ def _rows(advised: list[Row], document: dict[str, Any]) -> list[str]:
     """A row for each index, in the order of their numbers, and one for all that save little, where they are
     several."""
     shown, little = _apart(advised)
-    wide = max((len(named(it)) for _, it in shown if len(named(it)) <= LONGEST), default=0)
+    wide = max((len(told_as(it)) for _, it in shown if len(told_as(it)) <= LONGEST), default=0)
     lines = {at: _row(at, it, wide, document) for at, it in shown}
     if little:
         lines[little[0][0]] = _together(little)
@@ -152,8 +152,9 @@ def _notes(advised: list[Row], document: dict[str, Any]) -> list[str]:
     if advised and abs(summed - whole) >= FEW:
         why = "others stand in for one that is missing" if summed < whole else "some save only together"
         lines += [f"rows sum to {summed:.0f} %, not {whole:.0f}: {why}"]
-    long = [str(at) for at, it in advised if it.get("long")]
-    columns = sorted({f"{it['table']}.{name}" for _, it in advised for name in it.get("long", [])})
+    near = [(at, it, [name for name in it.get("long", []) if name not in it.get("long_far", [])]) for at, it in advised]
+    long = [str(at) for at, _, names in near if names]
+    columns = sorted({f"{it.get('path') or it['table']}.{name}" for _, it, names in near for name in names})
     if long:
         where = f"{', '.join(columns[:MOST_LONG])}{' ..' * (len(columns) > MOST_LONG)}"
         lines += [f"INSERTs of over {grouped(ENTRY)} bytes in {where} will fail (index {', '.join(long)})"]
@@ -173,7 +174,7 @@ def _row(at: int, pick: dict[str, Any], wide: int, document: dict[str, Any]) -> 
     mark = "*" if is_hint(pick) else " " if is_judged(pick) else "~"
     sql = f"  {purpose(pick, user, document, SQL)}" if user else ""
     begin = _begin(f"{at}.", pick["stored_pages"])
-    return f"{begin} {mark}{percent(saved_of(pick)):>7}  {named(pick):<{wide}}{sql}".rstrip()
+    return f"{begin} {mark}{percent(saved_of(pick)):>7}  {told_as(pick):<{wide}}{sql}".rstrip()
 
 
 def _together(little: list[Row]) -> str:
@@ -230,5 +231,4 @@ def _rest(document: dict[str, Any], kept: Folder) -> list[str]:
     # That the time for exchanges was up is counted, but isn't worth a look alone.
     is_more = len(warnings) > len(shown)
     notes = [counted(len(every) - len(shown), "more warning" if shown else "warning")] * is_more
-    notes += [f"{len(document['left_out'])} left out"] * bool(document["left_out"])
     return [*lines, f"{', '.join([*notes, 'all else'])}: {files.shown(kept.path(folder.DETAILS))}"]

@@ -4,6 +4,7 @@ from __future__ import annotations
 from collections.abc import Iterable, Mapping, Sequence
 from typing import Any
 
+from cophy_text.answers import counted
 from cophy_text.shown import in_row
 from cophy_text.tokens import Token, tokens
 from cophy_pg.schema import Table
@@ -61,7 +62,7 @@ def writes_of(
             row = {"command": in_row(shown), "table": table, "calls": sum(calls.get(it, 0) for it in writes)}
             more = {"kept": sum(bool(it & {*writes}) for it in paying), "new": len(listed), "before": before}
             found.append(row | more | {"not_hot": sorted(it for it in new if it.lower() in changed)})
-    return sorted(found, key=lambda it: (-it["calls"], it["table"]))
+    return sorted(found, key=lambda it: (not it["not_hot"], -it["calls"], it["table"]))
 
 
 def _tokens(text: str) -> list[Token]:
@@ -82,15 +83,17 @@ def _set_by(statement: list[Token], table: str) -> set[str]:
 
 
 def told(writes: list[dict[str, Any]]) -> list[str]:
-    """The line about those that run the most often, where there are any."""
+    """The line about the first ones, where there are any, and how many others there are."""
     shown = [_told(it) for it in writes[:MOST_TABLES]]
+    shown += [f"writes of {counted(len(writes) - MOST_TABLES, 'table')} more"] * (len(writes) > MOST_TABLES)
     return [f"writes: {', '.join(shown)}"] * bool(shown)
 
 
 def _told(it: dict[str, Any]) -> str:
     count, before, command = it["kept"], it["before"], it["command"]
     have = "has" if command in PLACES else "have"
-    text = f"{command} {PLACES.get(command, 'of')} {it['table']} {have} {count} index{'es' * (count != 1)} more to keep"
+    table = it.get("path") or it["table"]
+    text = f"{command} {PLACES.get(command, 'of')} {table} {have} {count} index{'es' * (count != 1)} more to keep"
     notes = [f"{before} to {before + count}"] if before is not None and count == it["new"] else []
     notes += [f"UPDATEs of {in_row(it['not_hot'])} can't be HOT any more"] if it["not_hot"] else []
     return f"{text} ({'; '.join(notes)})" if notes else text
