@@ -117,9 +117,9 @@ def make(server: Server, schema: Schema, advice: Advice) -> tuple[list[Outcome],
 
 
 def _there(server: Server, table: Table, columns: list[str], new_keys: int, outcome: Outcome) -> str | None:
-    """The name of an index over these columns alone; another that begins with them is noted, a unique one
-    over the first alone, and those with which their keys begin. Where the rows don't lie in its order, it is the one of a clustered pick, of which plans show nothing.
-    """
+    """The name of an index over these columns alone; another that begins with them is noted, a unique one over the first
+    alone, and those with which their keys begin. Where the rows don't lie in its order, it is the one of a clustered pick,
+    of which plans show nothing."""
     same = ""
     for schema, name, clusters, count, keys, may_go, is_plain, is_unique in server.rows(
         _INDEXES, (table.schema, table.name)
