@@ -16,7 +16,6 @@ from schema_check import faults
 if not NO_PARSER:
     from cophy_pg.ddl import Laid, Made, Named
     from cophy_pg.effect import Given, described
-    from cophy_pg.effect_text import lines_of
     from cophy_pg.folder import Folder
     from cophy_pg.standing import Found, shown_column, state_of
     from cophy_pg.standing import Standing as Stands
@@ -131,115 +130,6 @@ class Asked(unittest.TestCase):
         self.assertEqual(self.shown(), ([], True))
 
 
-@unittest.skipIf(NO_PARSER, NO_PARSER)
-class Text(unittest.TestCase):
-    def found(self, count: int, statements: int, **more: Any) -> dict[str, Any]:
-        """A document of so many indexes, each tenth of which is INVALID, and so many statements."""
-        indexes = [
-            {
-                "place": at,
-                "index": f"t{at}({'a' * (90 if at == 1 else 3)})",
-                "name": "i",
-                "recommended": True,
-                "state": "INVALID" if at % 10 == 0 else "there",
-                "scans": at - 1,
-            }
-            for at in range(1, count + 1)
-        ]
-        listed = [
-            {"numbers": [at], "sql": "S" * 60, "helped": True, "slower": False, "calls": 9, "before": 3000.0}
-            | {"since": 40.0 * at}
-            for at in range(1, statements + 1)
-        ]
-        every: dict[str, Any] = {"calls": 9, "before": 3.14, "since": 0.4}
-        counted = {"begin": "indexes", **every, "writes": every | {"calls": 0}, "all": every, "statements": listed}
-        cost = {"statements": 9, "of": 9, "before": 200.0, "now": 20.0, "advised": 9.0, "time": None}
-        document = {"version": 1, "database": "d", "made": "", "source": "pg_stat_statements", "indexes": indexes}
-        document |= {"make": ["psql"] * (count >= 10), "server_cost": cost, "counted": counted} | more
-        self.assertEqual([*faults(document, SCHEMA, SCHEMA)], [])
-        return document
-
-    def test_it_has_few_lines_that_are_narrow(self) -> None:
-        lines = lines_of(self.found(2, 2))
-        self.assertEqual(lines[0], "All 2 indexes are there, 1 of them in use, not used yet: 1.")
-        self.assertEqual(lines[1], "Since all indexes stood these 2 statements took 0.40 ms a call, 3.1 before.")
-        saved = "By the server's planner the statements cost 90.0 % less; the advice said 91.0 %."
-        self.assertEqual(lines[2:4], ["All 9 calls took 0.0036 s, at the times before 0.0283.", saved])
-        self.assertRegex(lines[6], r"^ 1\. +0  t1\(a+\.\.\.$")
-        self.assertEqual(lines[7], " 2.             1  t2(aaa)")
-        self.assertEqual(lines[10], f"{'3,000.0':>10} {'40.0':>10} {'9':>11}  {'S' * 60}")
-        for count, statements in ((21, 0), (10, 10), (3, 90), (90, 90)):
-            lines = lines_of(self.found(count, statements))
-            self.assertLessEqual(len(lines), 26 if count <= 12 else 21)
-            self.assertLessEqual(max(map(len, lines)), 100)
-            # Those that aren't there are told while there is room.
-            self.assertEqual(sum("INVALID" in it for it in lines), min(3, count // 10))
-        self.assertIn("and 87 more, of which 81 are there, 80 of them in use", lines)
-        # Of a dozen indexes each has its scans.
-        lines = lines_of(self.found(12, 90))
-        self.assertEqual([it.split()[0] for it in lines if it[2:3] == "."], [f"{at}." for at in range(1, 13)])
-
-    def test_those_that_got_slower_are_the_last_of_ten(self) -> None:
-        lines = lines_of(self.found(1, 90))
-        at = next(at for at, it in enumerate(lines) if it.endswith("  statement"))
-        self.assertEqual(len(lines) - at, 12)
-        self.assertEqual([it.split()[1] for it in lines[at + 8 : at + 11]], ["3,520.0", "3,560.0", "3,600.0"])
-        self.assertEqual(lines[-1], "and 80 more")
-
-    def test_what_isnt_known_is_left_out(self) -> None:
-        again = "No statement that they help was called since; calls are counted from now on: call this again later."
-        self.assertEqual(lines_of(self.found(1, 0))[0], "The index is there, not used yet.")
-        self.assertEqual(lines_of(self.found(1, 0))[1], again)
-        lines = lines_of(self.found(1, 0, counted=None, server_cost=None, source="sql"))
-        self.assertEqual(lines[1:3], ["The statements came from a file, so no times are compared.", ""])
-        self.assertEqual(
-            lines_of(self.found(0, 0, counted=None, server_cost=None)), ["The folder has no index to make."]
-        )
-        some = self.found(1, 0)["server_cost"] | {"statements": 3}
-        told = "By the server's planner 3 of 9 statements cost 90.0 % less; the advice said 91.0 %."
-        self.assertEqual(lines_of(self.found(1, 0, server_cost=some))[2], told)
-
-    def test_what_the_planner_says_is_named_as_the_summary_names_it(self) -> None:
-        begin, of_time = "By the server's planner the statements ", " of the time measured for queries; the advice said"
-        for more, told in (
-            ({"time": {"saved": 50.4, "advised": 51.2}}, f"would take 50 % less{of_time} 51 %."),
-            ({"time": {"saved": 0.43, "advised": 51.2}}, f"would take 0.4 % less{of_time} 51 %."),
-            ({"time": {"saved": -4.4, "advised": 51.2}}, f"would take 4 % more{of_time} 51 % less."),
-            ({"now": 208.8}, "cost 4.4 % more; the advice said 91.0 % less."),
-            ({"now": 200.01}, "cost 0.0 % less; the advice said 91.0 %."),
-        ):
-            cost = self.found(1, 0)["server_cost"] | more
-            self.assertEqual(lines_of(self.found(1, 0, server_cost=cost))[2], begin + told)
-
-    def test_statements_that_became_slower_are_told(self) -> None:
-        found = self.found(2, 2)
-        one = found["counted"]["statements"][0]
-        self.assertNotIn("slower", "\n".join(lines_of(found)))
-        one |= {"before": 2.0, "since": 3.1, "slower": True}
-        lines = lines_of(found)
-        self.assertEqual(
-            lines[3], "1 statement is slower by more than half: look at EXPLAIN ANALYZE of what is marked with a !."
-        )
-        self.assertEqual(sum("!S" in it for it in lines), 1)
-
-    def test_all_calls_and_those_that_write_are_told(self) -> None:
-        every = {"calls": 9000, "before": 5.0, "since": 1.25}
-        more = {"all": every, "writes": {"calls": 40, "before": 0.1, "since": 0.125}}
-        lines = lines_of(self.found(2, 2, counted=self.found(2, 2)["counted"] | more))
-        told = "All 9,000 calls took 11.2 s, at the times before 45.0; writes 0.12 ms a call, 0.10 before."
-        self.assertEqual(lines[2], told)
-
-    def test_calls_from_before_the_indexes_stood_are_told(self) -> None:
-        counted = self.found(2, 1)["counted"] | {"begin": "advice"}
-        lines = lines_of(self.found(2, 1, counted=counted))
-        self.assertTrue(lines[1].startswith("Since the advice this statement took "))
-        later = "Calls from before the indexes stood are in it too; the next call of effect leaves them out."
-        self.assertEqual(lines[3], later)
-        lines = lines_of(self.found(2, 1, counted=counted, make=["psql -X"]))
-        self.assertEqual(lines[3], "Calls from before the indexes stood are in it too.")
-        self.assertEqual(lines[-2:], ["to make the others:", "psql -X"])
-
-
 @unittest.skipIf(NO_HYPOPG, NO_HYPOPG)
 class Effect(OverOwn):
     """From the advice of a stand-in for the program to indexes that are there, and back."""
@@ -247,10 +137,10 @@ class Effect(OverOwn):
     database, content = "seen", MADE
     given = {"COPHY_PROGRAM": str(STAND_IN)}
 
-    def advise(self, *more: str) -> str:
+    def advise(self, *more: str, statements: str = STATEMENTS) -> str:
         """What advice prints; the path of its folder is `found`."""
         self.server.psql("SELECT pg_stat_statements_reset()", self.database)
-        self.server.psql(STATEMENTS * 9, self.database)
+        self.server.psql(statements * 9, self.database)
         self.found = str(self.folder / "advice of today")
         words = ("advise", "--budget", "20MB", "--no-curve", "--folder", self.found)
         return self.call(*words, *more).stdout
@@ -320,15 +210,36 @@ class Effect(OverOwn):
         self.server.psql(spoil.format("t_b_idx"), self.database)
         self.assertEqual(self.states(status=3), ["INVALID", "there", "there"])
         found = self.effect(status=3)
-        # Since not all stood since then, it isn't counted from there on.
+        # Since not all stood since then, it isn't counted from there on, but from when these are found.
         self.assertEqual((found["counted"]["begin"], found["counted"]["calls"]), ("advice", 2))
-        self.assertFalse((self.folder / "advice of today" / "effect.json").exists())
+        self.server.psql(STATEMENTS * 3, self.database)
+        found = self.effect(status=3)
+        self.assertEqual((found["counted"]["begin"], found["counted"]["calls"]), ("indexes", 6))
         self.server.psql("DROP INDEX t_b_idx; CREATE INDEX mine ON t (b); DROP INDEX part_v_idx", self.database)
         self.assertEqual(self.states(status=3), ["there", "not made", "there"])
         self.server.psql(
             "DROP INDEX mine; CREATE INDEX t_b_idx ON t (c); CREATE INDEX part_v_idx ON ONLY part (v)", self.database
         )
         self.assertEqual(self.states(status=3), ["name taken", "INVALID", "there"])
+
+    def test_what_no_index_touches_is_seen_beside(self) -> None:
+        other = "SELECT max(d) FROM t;"
+        self.advise(statements=STATEMENTS + other)
+        self.addCleanup(self.undo)
+        self.run_script(self.script(), "-v", "without=3")
+        self.assertNotIn("others", self.effect(status=3)["counted"])
+        self.server.psql((STATEMENTS + other) * 9, self.database)
+        counted = self.effect(status=3)["counted"]
+        self.assertEqual(counted["begin"], "indexes")
+        # Whom the index isn't made for is as it was, too.
+        self.assertEqual((counted["others"]["statements"], counted["others"]["calls"]), (2, 18))
+        self.assertLess(counted["others"]["against"]["statements"], 1)
+        kept = json.loads((self.folder / "advice of today" / "effect.json").read_text())
+        self.assertEqual(kept["stood"], [1, 2])
+        self.server.psql("DROP INDEX t_b_idx, part_v_idx", self.database)
+        self.undo()
+        self.effect(status=3)
+        self.assertFalse((self.folder / "advice of today" / "effect.json").exists())
 
     def test_the_last_folder_here_says_where_the_server_is(self) -> None:
         self.advise()

@@ -2,13 +2,14 @@
 from __future__ import annotations
 
 import unittest
+from dataclasses import replace
 from typing import Any
 
 from fixtures import NO_PARSER
 
 if not NO_PARSER:
     from cophy_pg.inputs import Input
-    from cophy_pg.measured import Measured, a_call, called_since, told_of, writes_of
+    from cophy_pg.measured import Measured, a_call, called_since, load_of, told_of, writes_of
     from cophy_pg.paths import Paths
     from cophy_pg.snapshots import Count, Snapshot, digest
 
@@ -24,7 +25,7 @@ class Times(unittest.TestCase):
             for at, picks in enumerate(([1], [2], [], [], []), 1)
         ]
         hint = {"place": 3, "why_not": None, "changes": [{"numbers": [3]}]}
-        self.document: dict[str, Any] = {"statements": self.statements, "hints": [hint]}
+        self.document: dict[str, Any] = {"statements": self.statements, "picks": [], "hints": [hint]}
         self.then = Snapshot("7", {digest(self.input(at, 10, 0.01)): Count(10, 0.01, 0.0) for at in range(1, 6)}, "d")
 
     def input(self, at: int, calls: int, seconds: float) -> Input:
@@ -60,6 +61,60 @@ class Times(unittest.TestCase):
         texts = ("INSERT INTO t", " update t", "SELECT 1", "WITH a AS (SELECT 2) DELETE FROM t", "DELETE FROM t")
         found = [Measured([], it, False, 1, 1.0, 1.0) for it in texts]
         self.assertEqual([it.sql for it in writes_of(found)], [texts[0], texts[1], texts[4]])
+
+    def test_how_busy_the_server_was_is_seen_by_what_no_index_touches(self) -> None:
+        others = [Measured([at], "SELECT 1", False, 100, 1.0, 0.29, is_other=True) for at in range(5)]
+        helped = Measured([6], "SELECT 2", True, 100, 288.7, 38.6)
+        table: list[tuple[list[Measured], tuple[str, float] | None]] = [
+            ([*others, helped], ("busier before", 0.29)),
+            # Fewer are enough where they took a part of the time.
+            ([*others[:4], helped], None),
+            ([*others[:4], Measured([6], "SELECT 2", True, 100, 70.0, 38.6)], ("busier before", 0.29)),
+            ([others[0]], None),
+            ([helped], None),
+            ([], None),
+            # By a few calls before or since it isn't known.
+            ([replace(it, calls=4) for it in others], None),
+            ([replace(it, earlier=4) for it in others], None),
+            ([replace(it, since=1.2) for it in others], ("alike", 1.2)),
+            ([replace(it, since=0.81) for it in others], ("alike", 0.81)),
+            ([replace(it, since=1.3) for it in others], ("busier since", 1.3)),
+            # One that takes long for another reason says nothing of the server.
+            (
+                [*(replace(it, since=1.0) for it in others), Measured([7], "", False, 100, 9.0, 90.0, is_other=True)],
+                None,
+            ),
+        ]
+        for found, told in table:
+            load = load_of(found)
+            self.assertEqual((load.name, round(load.ratio, 4)) if load else None, told)
+
+    def test_what_an_index_touches_by_the_advice_says_nothing_of_the_server(self) -> None:
+        def others(there: tuple[int, ...]) -> list[int]:
+            now = [self.input(at, 20, 0.02) for at in range(1, 6)]
+            found = called_since(Snapshot("7", {}, "d"), now, self.then, self.document, self.paths, there)
+            return sorted(it.numbers[0] for it in found if it.is_other)
+
+        self.document["picks"] = [{"place": 1, "changes": [{"numbers": [4]}]}]
+        self.assertEqual(others((1, 3)), [2, 5])
+        self.assertEqual(others((3,)), [1, 2, 4, 5])
+        # What the advice left out isn't known.
+        self.statements[4]["numbers"] = []
+        self.assertEqual(others((1, 3)), [2])
+        self.statements[1]["sql"] = "SELECT 2 FOR UPDATE"
+        now = [replace(self.input(2, 20, 0.02), text="SELECT 2 FOR UPDATE")]
+        found = called_since(Snapshot("7", {}, "d"), now, self.then, self.document, self.paths, ())
+        self.assertEqual([it.is_other for it in found], [False])
+
+    def test_where_all_take_longer_none_is_called_slower_for_that(self) -> None:
+        others = [Measured([at], "SELECT 1", False, 100, 1.0, 3.0, is_other=True) for at in range(5)]
+        self.assertEqual(told_of(others), [])
+        slower = Measured([6], "INSERT INTO t", False, 100, 1.0, 5.0)
+        self.assertEqual(told_of([*others, slower]), [slower])
+        # Where the server was busier before, what takes longer does.
+        before = [replace(it, since=0.3) for it in others]
+        self.assertEqual(told_of([*before, replace(slower, since=1.4)]), [])
+        self.assertEqual(told_of([*before, replace(slower, since=1.6)]), [replace(slower, since=1.6)])
 
     def test_what_wasnt_called_or_has_another_path_isnt(self) -> None:
         same = [(10, 0.01)] * 5

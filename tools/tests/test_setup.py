@@ -94,6 +94,14 @@ class Setup(InFolder):
         self.assertIn(" database 'odd', 2 of 3 statements counted with ", details)
         own = "SELECT count(*) FROM counted.pg_stat_statements WHERE userid = 'cophy_advisor'::regrole"
         self.assertEqual(other.value(own, "odd"), "0")
+        # Nor is an index in use for what the planner reads of it.
+        other.psql("CREATE TABLE e AS SELECT i AS a FROM generate_series(1, 9000) i; ANALYZE e", "odd")
+        other.psql("CREATE INDEX e_a ON e (a)", "odd")
+        scans = "SELECT idx_scan FROM pg_stat_user_indexes WHERE indexrelname = 'e_a'"
+        other.psql("EXPLAIN SELECT FROM e WHERE a > 8999", "odd", PGUSER="cophy_advisor")
+        self.assertEqual(other.value(scans, "odd"), "0")
+        other.psql("EXPLAIN SELECT FROM e WHERE a > 8999", "odd")
+        self.assertEqual(other.value(scans, "odd"), "1")
         # What the role ran where it was counted is none of the workload either.
         other.psql("ALTER ROLE cophy_advisor RESET pg_stat_statements.track")
         other.psql("SELECT count(a) FROM t WHERE a < 7", "odd", PGUSER="cophy_advisor")

@@ -57,6 +57,13 @@ BEGIN
 EXCEPTION WHEN insufficient_privilege OR undefined_object THEN
     NULL;
 END $$;
+-- The planner looks at the ends of indexes, which would count as their scans.
+DO $$
+BEGIN
+    ALTER ROLE cophy_advisor SET track_counts TO off;
+EXCEPTION WHEN insufficient_privilege THEN
+    NULL;
+END $$;
 GRANT CONNECT ON DATABASE :"DBNAME" TO cophy_advisor;
 -- The statements of all roles in pg_stat_statements.
 GRANT pg_read_all_stats TO cophy_advisor;

@@ -3,7 +3,7 @@ from __future__ import annotations
 
 import argparse
 import json
-from dataclasses import dataclass
+from dataclasses import dataclass, replace
 from typing import Any
 
 from cophy_text.files import NoFile
@@ -18,7 +18,7 @@ from cophy_pg.included import searched_columns
 from cophy_pg.inputs import NoInput
 from cophy_pg.local import connect_as_set_up, is_told_where
 from cophy_pg.maker import made_by
-from cophy_pg.measured import Measured, a_call, called_since, given_of, is_slower, told_of, writes_of
+from cophy_pg.measured import Load, Measured, a_call, called_since, given_of, is_slower, load_of, told_of, writes_of
 from cophy_pg.outcomes import Verdict
 from cophy_pg.overview import named
 from cophy_pg.paths import Paths, read_paths
@@ -46,6 +46,10 @@ class Given:
         """What the script makes without being asked, or all where nothing is recommended."""
         return [it for it in self.stands if it.is_asked] or self.stands
 
+    def stood(self) -> list[int]:
+        """The places of that which are there."""
+        return [it.place for it in self.asked() if it.is_there]
+
     def is_all_there(self) -> bool:
         """Whether all of that is there."""
         return all(it.is_there for it in self.asked())
@@ -58,9 +62,9 @@ def add_effect(commands: argparse._SubParsersAction[argparse.ArgumentParser]) ->
         help="say whether the indexes of a folder of advise are there, and what came of them",
         description="Says which indexes of a folder's script are there and how often the server has used each, what its "
         "planner thinks that the statements cost now, and how long a call of those that the indexes help takes since, beside "
-        "before, as pg_stat_statements counts it. No statement is executed and nothing is made. Once all indexes are there, the "
-        "folder keeps what was counted until then in effect.json, so that later calls say what came after it. It connects as advise "
-        "did where nothing says another database.",
+        "before, as pg_stat_statements counts it, and whether others do too. No statement is executed and nothing is made. "
+        "The folder keeps what was counted until these indexes were there in effect.json, so that later calls say what came after it. "
+        "It connects as advise did where nothing says another database.",
         epilog="The status is 0 where all indexes that are recommended are there, 3 where one isn't.",
     )
     parser.add_argument("folder", metavar="FOLDER", nargs="?", help="the folder of advise (the last one here)")
@@ -136,7 +140,7 @@ def _time_saved(document: dict[str, Any], known: list[tuple[Verdict, float]]) ->
 
 
 def _counted(server: Server, given: Given, is_trusted: bool) -> dict[str, Any] | None:
-    """What was counted of the statements since all indexes stood, or else since the advice; nothing where that isn't
+    """What was counted of the statements since these indexes stood, or else since the advice; nothing where that isn't
     known."""
     kept, doubts = given.kept, list[str]()
     if given.document["options"]["source"] != "pg_stat_statements" or not kept.has(folder.SNAPSHOT):
@@ -145,50 +149,76 @@ def _counted(server: Server, given: Given, is_trusted: bool) -> dict[str, Any] |
     try:
         listed = inputs.from_server(server, doubts.append, is_trusted)
         now, begin, found = taken_of(server, listed), "", list[Measured]()
-        # Where one is gone again, not all stood since then.
-        begins = {"indexes": folder.EFFECT} if given.is_all_there() and kept.has(folder.EFFECT) else {}
-        for begin, name in (begins | {"advice": folder.SNAPSHOT}).items():
-            then = read_snapshot(kept.path(name))
+        stood, advised = _stood(given), read_snapshot(kept.path(folder.SNAPSHOT))
+        begins = {"indexes": stood, "advice": advised} if stood else {"advice": advised}
+        for begin, then in begins.items():
             found = called_since(now, listed, then, given.document, given.paths, there)
             if told_of(found):
                 break
     except NoInput as fault:
         say(f"what was counted is left out: {fault}")
         return None
-    _keep(kept, now, given.is_all_there())
+    _keep(given, now, stood is not None)
     for it in doubts_of(given.document | {"doubts": doubts}):
         say(f"warning: {it}")
     return _times(begin, found)
 
 
-def _keep(kept: Folder, now: Snapshot, is_all_there: bool) -> None:
-    """Keeps what was counted until all indexes stood; where one is gone, that is over."""
+def _stood(given: Given) -> Snapshot | None:
+    """What was counted until just those indexes stood that are there now, if the folder has it."""
+    if not given.kept.has(folder.EFFECT):
+        return None
+    then = read_snapshot(given.kept.path(folder.EFFECT))
+    # Earlier ones say nothing of it and are of all indexes.
+    is_same = given.is_all_there() if then.stood is None else then.stood == given.stood()
+    return then if is_same else None
+
+
+def _keep(given: Given, now: Snapshot, is_kept: bool) -> None:
+    """Keeps what was counted until those indexes stood that are there now; where none is, that is over."""
     try:
-        if not is_all_there:
-            kept.clear(folder.EFFECT)
-        elif not kept.has(folder.EFFECT):
-            kept.write({folder.EFFECT: now.text()})
+        if not given.stood():
+            given.kept.clear(folder.EFFECT)
+        elif not is_kept:
+            given.kept.write({folder.EFFECT: replace(now, stood=given.stood()).text()})
     except NoFile as fault:
         say(f"warning: a later call can't count from now on: {fault}")
 
 
 def _times(begin: str, found: list[Measured]) -> dict[str, Any]:
-    """What was counted since a begin: of each statement that is told, of these together, of writes, and of all."""
-    told = told_of(found)
+    """What was counted since a begin: of each statement that is told, of these together, of writes, of all, and of others."""
+    told, load = told_of(found), load_of(found)
     statements = [
         {
             "numbers": it.numbers,
             "sql": short(it.sql),
             "helped": it.is_helped,
-            "slower": is_slower(it),
+            "slower": is_slower(it, load),
             "calls": it.calls,
             "before": round(it.before, 6),
             "since": round(it.since, 6),
         }
         for it in told
     ]
-    others = {"writes": _together(writes_of(found)), "all": _together(found)}
-    return {"begin": begin, **_together(told), **others, "statements": statements}
+    parts = {"writes": writes_of(found), "all": found}
+    more = {"others": _others(load, {"statements": told, **parts})} if load else {}
+    return {
+        "begin": begin,
+        **_together(told),
+        **{name: _together(it) for name, it in parts.items()},
+        **more,
+        "statements": statements,
+    }
+
+
+def _others(load: Load, parts: dict[str, list[Measured]]) -> dict[str, Any]:
+    """What the statements took that no new index touches, and what others took against them."""
+    against = dict[str, float | None]()
+    for name, found in parts.items():
+        before, since = a_call(found)
+        against[name] = round(since / before / load.ratio, 4) if before and load.ratio else None
+    times = {"statements": len(load.others), **_together(load.others), "ratio": round(load.ratio, 4)}
+    return times | {"load": load.name, "against": against}
 
 
 def _together(found: list[Measured]) -> dict[str, Any]:

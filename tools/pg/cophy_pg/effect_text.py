@@ -4,17 +4,20 @@ from __future__ import annotations
 from typing import Any
 
 from cophy_text.shown import about, grouped, percent, short
+from cophy_pg.measured import ALIKE, BUSIER_BEFORE
 from cophy_pg.standing import THERE
 
 MOST_LINES, MOST_INDEXES, MOST_STATEMENTS, MOST_SLOWER, LEAST = 20, 12, 10, 3, 4
 """About so many lines are printed; all indexes where they are so many, at most so many statements, of these so many that got
 slower; and at least so many rows of statements, and of more indexes."""
+CHANGED, FELT, LITTLE = 0.1, 0.1, 0.01
+"""A statement is shown whose call took such a part more or less, and so many milliseconds or such a part of what all changed."""
 
 
 def lines_of(found: dict[str, Any]) -> list[str]:
     """The text of a document."""
     head, end, indexes = _sentences(found), _rest(found), found["indexes"]
-    statements = found["counted"]["statements"] if found["counted"] else []
+    statements = _changed(found["counted"]["statements"]) if found["counted"] else []
     # Each of both has a blank line and one of names.
     room = MOST_LINES - len(head) - len(end) - 4
     least = LEAST if len(indexes) > MOST_INDEXES else len(indexes)
@@ -24,8 +27,16 @@ def lines_of(found: dict[str, Any]) -> list[str]:
 
 
 def _sentences(found: dict[str, Any]) -> list[str]:
-    """Whether all is there, and what that brought by the clock and by the planner."""
-    return [_there(found["indexes"]), *_by_clock(found), *_by_planner(found)]
+    """Whether all is there, and what that brought by the clock and by the planner, the latter first where the load
+    differed."""
+    clock, planner = _by_clock(found), _by_planner(found)
+    brought = [*planner, *clock] if _is_other_load(found["counted"]) else [*clock, *planner]
+    return [_there(found["indexes"]), *brought]
+
+
+def _is_other_load(counted: dict[str, Any] | None) -> bool:
+    """Whether the server was known to be busier before or since."""
+    return counted is not None and counted.get("others", {"load": ALIKE})["load"] != ALIKE
 
 
 def _by_clock(found: dict[str, Any]) -> list[str]:
@@ -38,15 +49,34 @@ def _by_clock(found: dict[str, Any]) -> list[str]:
     if not counted["statements"]:
         again = "calls are counted from now on: call this again later."
         return [f"No statement that they help was called since; {again}"]
-    lines = [f"{_begin(counted)} took {_ms(counted['since'])} ms a call, {_ms(counted['before'])} before."]
-    lines += [_of_all(counted)]
+    which = "all" if all(it["state"] == THERE for it in found["indexes"]) else "these"
+    begin = f"Since {which} indexes stood" if counted["begin"] == "indexes" else "Since the advice"
+    lines = (_against if _is_other_load(counted) else _times)(counted, begin)
     if slower := sum(it["slower"] for it in counted["statements"]):
         are = "statement is" if slower == 1 else "statements are"
         lines += [f"{slower} {are} slower by more than half: look at EXPLAIN ANALYZE of what is marked with a !."]
     if counted["begin"] == "advice":
-        later = "" if found["make"] else "; the next call of effect leaves them out"
-        lines += [f"Calls from before the indexes stood are in it too{later}."]
+        lines += ["Calls from before the indexes stood may be in it; the next call of effect leaves them out."]
     return lines
+
+
+def _times(counted: dict[str, Any], begin: str) -> list[str]:
+    """What these statements and all took since, beside what they took before, where the server was as busy."""
+    alike = "; others about the same" * ("others" in counted)
+    took = f"{_ms(counted['since'])} ms a call, {_ms(counted['before'])} before{alike}"
+    return [f"{begin} {_these(counted)} took {took}.", _of_all(counted)]
+
+
+def _against(counted: dict[str, Any], begin: str) -> list[str]:
+    """What others took since, as the server was busier or less busy, and what these and all took against that."""
+    others, every = counted["others"], f"all {grouped(counted['all']['calls'])} calls"
+    when = "then" if others["load"] == BUSIER_BEFORE else "since"
+    took = f"statements without new indexes took {about(100 * others['ratio'])} of their time before"
+    told = {"statements": _these(counted), "all": every, "writes": "writes"}
+    known = [(told[name], about(100 * others["against"][name])) for name in told if others["against"][name] is not None]
+    (what, part), *more = known
+    against = ", ".join([f"{what} took {part} of theirs", *(f"{what} {part}" for what, part in more)])
+    return [f"{begin} {took}: the server was busier {when}.", f"Against them {against}."]
 
 
 def _by_planner(found: dict[str, Any]) -> list[str]:
@@ -92,10 +122,26 @@ def _there(indexes: list[dict[str, Any]]) -> str:
     return f"{count} indexes are there, {used or 'none'} of them in use{' yet' * (not used)}{unused}."
 
 
-def _begin(counted: dict[str, Any]) -> str:
-    begin = "Since all indexes stood" if counted["begin"] == "indexes" else "Since the advice"
+def _these(counted: dict[str, Any]) -> str:
     count = len(counted["statements"])
-    return f"{begin} {'this statement' if count == 1 else f'these {count} statements'}"
+    return "this statement" if count == 1 else f"these {count} statements"
+
+
+def _changed(every: list[dict[str, Any]]) -> list[dict[str, Any]]:
+    """The statements that got slower, and those whose change isn't noise; those that gained or lost the most first."""
+    whole = sum(map(_change, every))
+
+    def is_shown(it: dict[str, Any]) -> bool:
+        change = abs(it["since"] - it["before"])
+        is_felt = change >= FELT or _change(it) >= LITTLE * whole
+        return bool(it["slower"]) or change >= CHANGED * it["before"] and is_felt
+
+    return sorted(filter(is_shown, every), key=lambda it: -_change(it))
+
+
+def _change(statement: dict[str, Any]) -> float:
+    """How many milliseconds all calls of a statement gained or lost."""
+    return abs(float(statement["calls"] * (statement["since"] - statement["before"])))
 
 
 def _indexes(indexes: list[dict[str, Any]], most: int) -> list[str]:
@@ -115,12 +161,12 @@ def _indexes(indexes: list[dict[str, Any]], most: int) -> list[str]:
 
 
 def _statements(every: list[dict[str, Any]], most: int) -> list[str]:
-    """A row for each statement that saved the most, and for those that got the slowest."""
+    """A row for each statement that gained or lost the most, and for the first that got slower."""
     if not every:
         return []
-    slower = [it for it in every if it["since"] > it["before"]][-MOST_SLOWER:]
-    others = [it for it in every if it not in slower]
-    shown = [*others[: most - len(slower)], *slower]
+    slower = [it for it in every if it["slower"]][:MOST_SLOWER]
+    others = [it for it in every if it not in slower][: most - len(slower)]
+    shown = [it for it in every if it in slower or it in others]
     lines = ["", f"{'ms before':>10} {'ms since':>10} {'calls':>11}  statement"]
     lines += [
         f"{_ms(it['before']):>10} {_ms(it['since']):>10} {grouped(it['calls']):>11} {'!' if it['slower'] else ' '}{it['sql']}"

@@ -43,6 +43,8 @@ _SETTINGS = {
 _WHERE_THERE = {
     # What is asked here is no part of the workload. Not every role may say so.
     "pg_stat_statements.track": "none",
+    # Nor are the planner's looks at the ends of indexes scans of them.
+    "track_counts": "off",
     # A server that goes on when nobody reads its answer ends.
     "client_connection_check_interval": "10s",
     # A plan for statements with parameters doesn't hang on their values.

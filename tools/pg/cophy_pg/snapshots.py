@@ -31,16 +31,18 @@ class Count:
 @dataclass
 class Snapshot:
     """What was counted of each statement, by a digest of its text and path, when the counts began, and in which database, if
-    that is known."""
+    that is known; in a folder of `advise` the places of the recommended indexes that stood."""
 
     begun: str = ""
     counts: dict[str, Count] = field(default_factory=dict)
     database: str = ""
+    stood: list[int] | None = None
 
     def text(self) -> bytes:
         """The snapshot as a file, in which no statement can be read."""
         counts = {key: [it.calls, it.seconds, it.rows] for key, it in sorted(self.counts.items())}
         document = {"version": 1, "database": self.database, "begun": self.begun, "counts": counts}
+        document |= {"stood": self.stood} if self.stood is not None else {}
         return (json.dumps(document, indent=0) + "\n").encode("ascii")
 
 
@@ -100,7 +102,8 @@ def read_snapshot(file: str) -> Snapshot:
         if document["version"] != 1:
             raise ValueError
         counts = {str(key): _count(it) for key, it in document["counts"].items()}
-        return Snapshot(str(document["begun"]), counts, str(document.get("database", "")))
+        stood = [int(it) for it in document["stood"]] if "stood" in document else None
+        return Snapshot(str(document["begun"]), counts, str(document.get("database", "")), stood)
     except (ValueError, TypeError, KeyError, AttributeError, RecursionError, OverflowError):
         raise NoInput(f"{files.shown(file)} is no snapshot of cophy-pg") from None
 
