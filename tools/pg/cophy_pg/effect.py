@@ -20,7 +20,7 @@ from cophy_pg.local import connect_as_set_up, is_told_where
 from cophy_pg.maker import made_by
 from cophy_pg.measured import Load, Measured, a_call, called_since, given_of, is_slower, load_of, told_of, writes_of
 from cophy_pg.outcomes import Verdict
-from cophy_pg.overview import named
+from cophy_pg.overview import told_as
 from cophy_pg.paths import Paths, read_paths
 from cophy_pg.progress import Progress, say
 from cophy_pg.server import Server, ServerFault, add_connection, connected, reading
@@ -238,7 +238,7 @@ def described(given: Given) -> dict[str, Any]:
         "indexes": [
             {
                 "place": it.place,
-                "index": named(it.row),
+                "index": told_as(it.row),
                 "name": it.row["name"],
                 "recommended": it.is_asked,
                 "state": it.state,

@@ -16,7 +16,7 @@ from cophy_pg.curves import curve_of
 from cophy_pg.folder import Folder
 from cophy_pg.guesses import doubt_of, time_saved, warning_of
 from cophy_pg.hints import ALONE, hints_told
-from cophy_pg.overview import headline, is_seen, name_of, named
+from cophy_pg.overview import headline, is_seen, name_of, named, told_as
 from cophy_pg.plan_text import plan_text
 from cophy_pg.progress import say
 from cophy_pg.purpose import filter_of
@@ -155,7 +155,7 @@ def _pick(place: int, pick: dict[str, Any], document: dict[str, Any]) -> dict[st
         "is_hint": is_hint(pick),
         "time": time_saved(pick),
         "place": place,
-        "index": named(pick),
+        "index": told_as(pick),
         "listed": changes,
         **more,
     }
