@@ -62,7 +62,7 @@ def add_effect(commands: argparse._SubParsersAction[argparse.ArgumentParser]) ->
         help="say whether the indexes of a folder of advise are there, and what came of them",
         description="Says which indexes of a folder's script are there and how often the server has used each, what its "
         "planner thinks that the statements cost now, and how long a call of those that the indexes help takes since, beside "
-        "before, as pg_stat_statements counts it, and whether others do too. No statement is executed and nothing is made. "
+        "before, as pg_stat_statements counts it, and beside others. No statement is executed and nothing is made. "
         "The folder keeps what was counted until these indexes were there in effect.json, so that later calls say what came after it. "
         "It connects as advise did where nothing says another database.",
         epilog="The status is 0 where all indexes that are recommended are there, 3 where one isn't.",
@@ -186,7 +186,7 @@ def _keep(given: Given, now: Snapshot, is_kept: bool) -> None:
 
 
 def _times(begin: str, found: list[Measured]) -> dict[str, Any]:
-    """What was counted since a begin: of each statement that is told, of these together, of writes, of all, and of others."""
+    """What was counted since a begin: of each statement that is told, of these, of writes, of all, and of others."""
     told, load = told_of(found), load_of(found)
     statements = [
         {

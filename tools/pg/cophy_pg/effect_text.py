@@ -11,7 +11,8 @@ MOST_LINES, MOST_INDEXES, MOST_STATEMENTS, MOST_SLOWER, LEAST = 20, 12, 10, 3, 4
 """About so many lines are printed; all indexes where they are so many, at most so many statements, of these so many that got
 slower; and at least so many rows of statements, and of more indexes."""
 CHANGED, FELT, LITTLE = 0.1, 0.1, 0.01
-"""A statement is shown whose call took such a part more or less, and so many milliseconds or such a part of what all changed."""
+"""A statement is shown whose call took such a part more or less, by so many milliseconds or such a part of what all
+changed."""
 
 
 def lines_of(found: dict[str, Any]) -> list[str]:

@@ -17,8 +17,8 @@ SLOWER, SEEN, ENOUGH = 1.5, 0.01, 5
 time of all by that. Of fewer calls than this, before or since, it isn't said."""
 WRITES = ("INSERT", "UPDATE", "DELETE", "MERGE")
 FEWEST, SHARE, FASTER, LONGER = 5, 0.05, 0.8, 1.25
-"""How busy the server was is known by so many statements that no new index touches, or by two with such a part of the time
-before; it differs where they take less than such a part of what they took, or more than such a one."""
+"""How busy the server was is known by so many statements that no new index touches, or by two with such a part of the
+time before; it differs where they take less than such a part of what they took, or more than such a one."""
 ALIKE, BUSIER_BEFORE, BUSIER_SINCE = "alike", "busier before", "busier since"
 _WRITES = re.compile(rf"\b(?:{'|'.join(WRITES)})\b", re.IGNORECASE)
 
