@@ -101,7 +101,7 @@ class Steps(unittest.TestCase):
 
         self.assertEqual(beside.filled(ask, [trade]), {1, 6})
         self.assertEqual(asked, [[1, 3, 4, 5, 6], [1, 3, 4, 6], [1, 3, 6]])
-        # What costs more where rows are written than it saves hides nothing either, and after so many questions it is over.
+        # What costs more where rows are written than it saves hides nothing either. After so many questions it is over.
         self.prices.upkeep[6] = 90000
         asked.clear()
         self.assertEqual(beside.filled(ask), {1, 3})

@@ -85,8 +85,8 @@ class Beside:
         return replace(trade, loss=loss)
 
     def filled(self, ask: Callable[[Advice], list[Verdict]], trades: Iterable[Trade] = ()) -> Chosen:
-        """The picks with what the planner takes beside them. Where nothing of that comes in, it is asked again without that: what
-        is too large for the space hides what would do in its place."""
+        """The picks with what the planner takes beside them. Where nothing of that comes in, it is asked again without
+        that: what is too large for the space hides what would do in its place."""
         listed, hidden = [*trades], frozenset[int]()
         for _ in range(MOST_ASKED):
             asked = self.asked_about(listed, hidden)
@@ -99,8 +99,8 @@ class Beside:
         return self.chosen
 
     def asked_about(self, trades: Iterable[Trade] = (), hidden: Chosen = frozenset()) -> Advice | None:
-        """The picks with all candidates that fit in what is left, in the place of weak picks and in what trades leave, but for
-        those that are hidden; nothing where none does."""
+        """The picks with all candidates that fit in what is left, in the place of weak picks and in what trades leave,
+        but for those that are hidden; nothing where none does."""
         left = self.exchange.room - self.exchange.size(self.chosen) + self.exchange.size(self._weak())
         left += sum(map(self._freed, self._cheapest(trades)))
         fitting = [it for it in sorted(self.free - hidden) if 0 < self.exchange.sizes[it] <= left]
