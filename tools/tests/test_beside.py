@@ -84,6 +84,34 @@ class Steps(unittest.TestCase):
         # The trade loses more than what would come saves.
         self.assertEqual(beside.better([self.verdict(2, 90, 86, 5)], [trade]), {1})
 
+    def test_what_is_too_large_hides_nothing(self) -> None:
+        now = [self.verdict(1, 100, 10, 1), self.verdict(2, 90, 90), self.verdict(3, 80, 80)]
+        beside, asked = self.beside(50, (1,), now), list[list[int]]()
+        known = beside.exchange.pricing.candidates
+        known[1], known[3] = Candidate(1, "t", ("a", "b"), 1), Candidate(3, "t", ("a",), 1)
+        (trade,) = [beside.priced(it, [self.verdict(1, 100, 50, 3)]) for it in beside.narrower()]
+        # Each takes the place of the next one; 5 and 4 fit behind the trade alone, which loses more than they save.
+        saved = {5: 60, 4: 65, 6: 70, 3: 75}
+        self.prices.upkeep[6] = 0
+
+        def ask(picks: Advice) -> list[Verdict]:
+            asked.append([it.number for it in picks.picks])
+            best = next((it for it in saved if it in asked[-1]), 0)
+            return [self.verdict(3, 80, saved.get(best, 80), *([best] if best else []))]
+
+        self.assertEqual(beside.filled(ask, [trade]), {1, 6})
+        self.assertEqual(asked, [[1, 3, 4, 5, 6], [1, 3, 4, 6], [1, 3, 6]])
+        # What costs more where rows are written than it saves hides nothing either. After so many questions it is over.
+        self.prices.upkeep[6] = 90000
+        asked.clear()
+        self.assertEqual(beside.filled(ask), {1, 3})
+        self.assertEqual(asked, [[1, 3, 6], [1, 3]])
+        asked.clear()
+        self.assertEqual(beside.filled(ask, [trade]), {1})
+        self.assertEqual(len(asked), 3)
+        asked.clear()
+        self.assertEqual((beside.filled(lambda _: []), self.beside(40, (1,), now).filled(ask), asked), ({1}, {1}, []))
+
 
 if __name__ == "__main__":
     unittest.main()

@@ -200,6 +200,13 @@ class Rewriting(OverTables):
             [f"SELECT a.x\nFROM a, b\nWHERE b.a_id = a.id AND b.v = 5 AND a.id IN ({', '.join('?' * 10)})"],
         )
         self.assertEqual(found.changes, ["looked up"])
+        # A range of parameters counts as the literal one that is written for it.
+        found = self.rewritten("select a.x from a join b on b.a_id = a.id where b.v between $1 and $2", look_ups=True)
+        self.assertEqual(
+            found.statements,
+            [f"SELECT a.x\nFROM a, b\nWHERE b.a_id = a.id AND b.v BETWEEN 0 AND 50 AND a.id IN ({', '.join('?' * 5)})"],
+        )
+        self.assertEqual(found.changes, ["parameter range", "looked up"])
 
     def test_of_more_than_8_sources_small_ones_go(self) -> None:
         joins = " ".join(f"join s{it} on s{it}.id = a.k" for it in range(9))

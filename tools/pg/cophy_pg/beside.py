@@ -21,6 +21,8 @@ MUCH_SMALLER = 0.75
 """A candidate of at most this share of a pick's size may take its place."""
 MOST_TRADES = 4
 """So many picks at most are made narrower at once."""
+MOST_ASKED = 3
+"""So often at most is the planner asked what it takes, until something of that comes in."""
 
 Saved = dict[int, float]
 """What candidates save by the server's planner, over all calls, by their numbers."""
@@ -82,12 +84,26 @@ class Beside:
         loss = sum(it.calls * ((it.after or 0.0) - cost) for it, cost in both if cost is not None)
         return replace(trade, loss=loss)
 
-    def asked_about(self, trades: Iterable[Trade] = ()) -> Advice | None:
-        """The picks with all candidates that fit in what is left, in the place of weak picks and in what trades leave; nothing
-        where none does."""
+    def filled(self, ask: Callable[[Advice], list[Verdict]], trades: Iterable[Trade] = ()) -> Chosen:
+        """The picks with what the planner takes beside them. Where nothing of that comes in, it is asked again without
+        that: what is too large for the space hides what would do in its place."""
+        listed, hidden = [*trades], frozenset[int]()
+        for _ in range(MOST_ASKED):
+            asked = self.asked_about(listed, hidden)
+            verdicts = ask(asked) if asked else []
+            chosen = self.better(verdicts, listed)
+            taken = self.free & {number for it in verdicts for number in it.taken}
+            if chosen != self.chosen or not taken:
+                return chosen
+            hidden |= taken
+        return self.chosen
+
+    def asked_about(self, trades: Iterable[Trade] = (), hidden: Chosen = frozenset()) -> Advice | None:
+        """The picks with all candidates that fit in what is left, in the place of weak picks and in what trades leave,
+        but for those that are hidden; nothing where none does."""
         left = self.exchange.room - self.exchange.size(self.chosen) + self.exchange.size(self._weak())
         left += sum(map(self._freed, self._cheapest(trades)))
-        fitting = [it for it in sorted(self.free) if 0 < self.exchange.sizes[it] <= left]
+        fitting = [it for it in sorted(self.free - hidden) if 0 < self.exchange.sizes[it] <= left]
         return replace(self.choice.advice, picks=self._listed({*self.chosen, *fitting})) if fitting else None
 
     def better(self, verdicts: list[Verdict], trades: Iterable[Trade] = ()) -> Chosen:

@@ -26,7 +26,7 @@ from cophy_pg.worth import Worth, worth_of
 ROUNDS = 4
 """How often is searched: each time but the first without what no plan took before."""
 ADDITIONS = 3
-"""How often the planner is asked what it takes in the space that is left."""
+"""How often what the planner takes in the space that is left is added."""
 
 
 @dataclass
@@ -108,10 +108,11 @@ class Rounds:
         planning = Planning(self.schema, judged.verdicts, self.words.planning)
         beside = Beside(choice, judged.verdicts, exchange, self.workload.divisor, planning.longer)
         trades = [self._priced(server, beside, it) for it in beside.narrower() if not self.searches.is_over()]
-        asked = beside.asked_about(trades)
-        if asked is None or self.searches.is_over():
-            return None
-        chosen = beside.better(self.asked(server, asked, judged.verdicts).verdicts, trades)
+
+        def ask(picks: Advice) -> list[Verdict]:
+            return [] if self.searches.is_over() else self.asked(server, picks, judged.verdicts).verdicts
+
+        chosen = beside.filled(ask, trades)
         if chosen == beside.chosen:
             return None
         try:

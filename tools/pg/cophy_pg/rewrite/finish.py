@@ -4,8 +4,9 @@ from __future__ import annotations
 from collections.abc import Callable, Iterable
 
 from cophy_pg.bounds import narrow, share
-from cophy_pg.places import day_number, text_of_number
+from cophy_pg.places import day_number
 from cophy_pg.rewrite.block import MOST_SLOTS, Block, Condition, Test, Tie, spares
+from cophy_pg.rewrite.ranges import number_value
 from cophy_pg.rewrite.terms import ANY, Col, Mix, Slot, Term, Value
 from cophy_pg.schema import Column
 
@@ -108,10 +109,10 @@ def _narrow(column: Column) -> tuple[Value, Value]:
     """The ends of a range that keeps about so much as a range of parameters does: by the histogram, or at the low end."""
     ends = narrow(column.bounds, 1 / GENERIC_PART) if column.bounds else None
     if ends is not None:
-        return tuple(Value(text_of_number(column, it)) for it in ends)  # type: ignore[return-value]
+        return tuple(number_value(column, it) for it in ends)  # type: ignore[return-value]
     assert column.low is not None and column.high is not None
     width = max(1, round((column.high - column.low) / GENERIC_PART))
-    return tuple(Value(text_of_number(column, it)) for it in (column.low, column.low + width))  # type: ignore[return-value]
+    return tuple(number_value(column, it) for it in (column.low, column.low + width))  # type: ignore[return-value]
 
 
 def part_of(test: Condition) -> float:
