@@ -88,7 +88,9 @@ class Recommended(unittest.TestCase):
         for more in (pick(0, 0.0, 5.0), pick(0, 0, 0, saves=saves), pick(0, 0.0, 1.0, clustered=True)):
             self.assertEqual(why(more | {"begins": "'public'.'more'", "key": "'public'.'t_pkey'"}), "")
         # A row that its key finds is read at once, whatever else stands behind the key.
-        self.assertEqual(why(little | {"key": "'public'.'t_pkey'"}, 4), "'public'.'t_pkey' finds the row of each b")
+        key = {"key": "'public'.'t_pkey'"}
+        self.assertEqual(why(pick(0, 9.0, 1.9) | key, 4), "'public'.'t_pkey' finds the row of each b")
+        self.assertEqual(why(pick(0, 9.0, 2.0) | key, 4), "")
         # Where all but a are only read, all have the same key.
         self.assertEqual(why(little, searched={"a"}), "")
         self.assertEqual(why(little, 1, {"a", "c"}), "t(a, b, c) serves it too")

@@ -69,7 +69,8 @@ def _hot_of(pick: dict[str, Any]) -> str:
 
 def served(pick: dict[str, Any], candidate: Candidate, others: Iterable[Candidate], searched: set[str] | None) -> str:
     """Which index of the server, or else of the others that are recommended the longest, serves what a pick serves that saves few
-    percent beside it, or which finds the one row of each value of its first column; nothing where none does."""
+    percent beside it, or which finds the one row of each value of its first column, where it saves less still; nothing where
+    none does."""
     if not is_judged(pick) or by_server(pick)[0] >= FEW:
         return ""
 
@@ -84,7 +85,9 @@ def served(pick: dict[str, Any], candidate: Candidate, others: Iterable[Candidat
     longest = max(serving, key=lambda it: len(keys(it)), default=None)
     if name := pick["begins"] or (longest.shown() if longest else ""):
         return f"{name} serves it too"
-    return f"{pick['key']} finds the row of each {candidate.columns[0]}" if pick.get("key") else ""
+    if not pick.get("key") or by_server(pick)[0] >= LEAST_AGAINST:
+        return ""
+    return f"{pick['key']} finds the row of each {candidate.columns[0]}"
 
 
 def without_caveats(
