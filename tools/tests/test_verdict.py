@@ -79,6 +79,13 @@ class Verdict(OverDocument):
         picks[1]["long"] = []
         self.assertFalse([it for it in self.verdict() if "bytes" in it])
 
+    def test_what_others_could_save_much_more_by_is_named_by_its_first_columns(self) -> None:
+        self.five()
+        self.document["cost"]["bound"] = 900000
+        for columns, shown in (("a, b, c", "a, b, c"), ("a, b, c, d", "a, b, c, ..")):
+            self.document["gap"] = {"index": f"t({columns})", "why": "so it is"}
+            self.assertIn(f"most of what others could save more is t({shown}): so it is", self.verdict())
+
     def test_indexes_that_save_little_share_a_row(self) -> None:
         self.five()
         self.document["statements"][0]["sql"] = "SELECT a, b FROM t0, t1 WHERE t1.b > 5 AND t0.a = 3"

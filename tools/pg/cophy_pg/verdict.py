@@ -40,6 +40,8 @@ MUCH_SPACE, FEW = 0.25, 3
 told; so is that rows don't sum to what all save but for so many percent."""
 MUCH_MORE = 10
 """Where others could save so many percent of the cost more, the index that most of that is of is told."""
+MOST_LISTED = 3
+"""So many columns of that are shown."""
 MOST_LONG = 2
 """So many columns are named whose values may be too long."""
 Row = tuple[int, dict[str, Any]]
@@ -165,7 +167,12 @@ def _held_back(document: dict[str, Any]) -> list[str]:
     """Which index others could save much more by, and why it isn't advised, where that is so."""
     ours, gap = document["cost"], document.get("gap")
     more = 100 * (recommended_of(document)["cost"] - ours["bound"]) / max(1, ours["before"])
-    return [f"most of what others could save more is {gap['index']}: {gap['why']}"] if gap and more >= MUCH_MORE else []
+    if not gap or more < MUCH_MORE:
+        return []
+    table, _, columns = gap["index"].partition("(")
+    listed = columns.split(", ")
+    named = gap["index"] if len(listed) <= MOST_LISTED else f"{table}({', '.join(listed[:MOST_LISTED])}, ..)"
+    return [f"most of what others could save more is {named}: {gap['why']}"]
 
 
 def _row(at: int, pick: dict[str, Any], wide: int, document: dict[str, Any]) -> str:
