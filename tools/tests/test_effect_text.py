@@ -105,7 +105,7 @@ class Text(unittest.TestCase):
         planner = "By the server's planner the statements would take 19 % less of the time measured for queries; "
         planner += "the advice said 23 % with all."
         begin = "Since the advice statements without new indexes took 29 % of their time before: "
-        before = "Calls from before the indexes stood may be in it; the next call of effect leaves them out."
+        before = "Calls from before the indexes stood may be in it, until some come after the first call of effect."
         there = "5 of 7 indexes are there, 5 of them in use."
         against = "Against them these 7 statements took 46 % of theirs, all 23,744 calls 80 %, writes 79 %."
         found = self.busy({"ratio": 0.29, "load": "busier before"})
@@ -172,7 +172,7 @@ class Text(unittest.TestCase):
         counted = self.found(2, 1)["counted"] | {"begin": "advice"}
         lines = lines_of(self.found(2, 1, counted=counted))
         self.assertTrue(lines[1].startswith("Since the advice this statement took "))
-        later = "Calls from before the indexes stood may be in it; the next call of effect leaves them out."
+        later = "Calls from before the indexes stood may be in it, until some come after the first call of effect."
         self.assertEqual(lines[3], later)
         lines = lines_of(self.found(2, 1, counted=counted, make=["psql -X"]))
         self.assertEqual(lines[-2:], ["to make the others:", "psql -X"])

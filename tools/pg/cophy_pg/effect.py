@@ -18,7 +18,7 @@ from cophy_pg.included import searched_columns
 from cophy_pg.inputs import NoInput
 from cophy_pg.local import connect_as_set_up, is_told_where
 from cophy_pg.maker import made_by
-from cophy_pg.measured import Load, Measured, a_call, called_since, given_of, is_slower, load_of, told_of, writes_of
+from cophy_pg.measured import Load, Measured, a_call, called_since, given_of, load_of, slower_of, told_of, writes_of
 from cophy_pg.outcomes import Verdict
 from cophy_pg.overview import told_as
 from cophy_pg.paths import Paths, read_paths
@@ -187,13 +187,13 @@ def _keep(given: Given, now: Snapshot, is_kept: bool) -> None:
 
 def _times(begin: str, found: list[Measured]) -> dict[str, Any]:
     """What was counted since a begin: of each statement that is told, of these, of writes, of all, and of others."""
-    told, load = told_of(found), load_of(found)
+    told, load, slower = told_of(found), load_of(found), slower_of(found)
     statements = [
         {
             "numbers": it.numbers,
             "sql": short(it.sql),
             "helped": it.is_helped,
-            "slower": is_slower(it, load),
+            "slower": it in slower,
             "calls": it.calls,
             "before": round(it.before, 6),
             "since": round(it.since, 6),

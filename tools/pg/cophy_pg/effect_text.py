@@ -57,7 +57,7 @@ def _by_clock(found: dict[str, Any]) -> list[str]:
         are = "statement is" if slower == 1 else "statements are"
         lines += [f"{slower} {are} slower by more than half: look at EXPLAIN ANALYZE of what is marked with a !."]
     if counted["begin"] == "advice":
-        lines += ["Calls from before the indexes stood may be in it; the next call of effect leaves them out."]
+        lines += ["Calls from before the indexes stood may be in it, until some come after the first call of effect."]
     return lines
 
 

@@ -13,8 +13,8 @@ from cophy_pg.paths import Paths
 from cophy_pg.snapshots import Snapshot, digest, since
 
 SLOWER, SEEN, ENOUGH = 1.5, 0.01, 5
-"""A statement got slower that takes so many times as long; one that no index helps is told where it lost such a part of the
-time of all by that. Of fewer calls than this, before or since, it isn't said."""
+"""A statement got slower that takes so many times as long, which is told where it lost such a part of the time of all by that.
+Of fewer calls than this, before or since, it isn't said."""
 WRITES = ("INSERT", "UPDATE", "DELETE", "MERGE")
 FEWEST, SHARE, FASTER, LONGER = 5, 0.05, 0.8, 1.25
 """How busy the server was is known by so many statements that no new index touches, or by two with such a part of the
@@ -106,8 +106,14 @@ def _side(ratio: float) -> str:
 
 def told_of(found: Sequence[Measured]) -> list[Measured]:
     """Those of them that an index helps, or that got slower."""
+    slower = slower_of(found)
+    return [it for it in found if it.is_helped or it in slower]
+
+
+def slower_of(found: Sequence[Measured]) -> list[Measured]:
+    """Those of them that got slower, as far as that is felt in the time of all."""
     whole, load = sum(it.calls * it.since for it in found), load_of(found)
-    return [it for it in found if it.is_helped or is_slower(it, load) and -it.saved > SEEN * whole]
+    return [it for it in found if is_slower(it, load) and -it.saved > SEEN * whole]
 
 
 def writes_of(found: Sequence[Measured]) -> list[Measured]:
