@@ -24,7 +24,7 @@ from schema_check import faults
 
 FILES = (
     "advice.json advice.txt catalogue.toml certificate check.txt commands.txt curve.json database.toml details.txt export.txt indexes.sql kept.txt lint.txt "
-    "make.sh plans.json ruled.txt rules.txt summary.txt verify.json workload.sql"
+    "plans.json ruled.txt rules.txt summary.txt verify.json workload.sql"
 ).split()
 HAS_RICH = importlib.util.find_spec("rich") is not None
 
@@ -168,11 +168,10 @@ class Advise(OverSql):
         end = r"by our model no (other )?indexes of [\d.,]+ MB cost less.*; certificate checked\n"
         self.assertRegex(text, end)
         place = f"-h {self.server.folder} -p 5432 -d shop -U cophy -f {self.found}/indexes.sql"
-        command = f"let their owner run: psql -X {place}"
+        command = f"cophy-pg make {self.found}; or their owner runs: psql -X {place}"
         then = f"whether it helped: cophy-pg effect {self.found}"
-        self.assertEqual(text.splitlines()[-2:], [f"to make them in about 1 second, {command}", then])
-        self.assertEqual(short.splitlines()[-2:], [f"sh {self.found}/make.sh", then])
-        self.assertIn(f"\npsql -X {place.partition(' -U ')[0]} \"$@\"", (self.found / "make.sh").read_text())
+        self.assertEqual(text.splitlines()[-2:], [f"to make them in about 1 second: {command}", then])
+        self.assertEqual(short.splitlines()[-2:], [f"cophy-pg make {self.found}", then])
         self._reads_alone()
 
     def _reads_alone(self) -> None:

@@ -200,8 +200,10 @@ class Walk(unittest.TestCase):
         self.assertEqual(len([*self.here.glob("cophy-advice-*/report.html")]), 1)
         for it in "report.html advice.txt kept.txt indexes.sql summary.txt".split():
             self.assertTrue((self.here / "advice" / it).stat().st_size, it)
-        ran = self.bash("psql -X -U cophy -v undo=1 -f ~/advice/indexes.sql", PGUSER="cophy")
+        # Where a person would be asked.
+        ran = self.bash(f"cophy-pg make ~/advice --undo --yes --psql 'psql -h {self.server.folder} -U cophy'")
         self.assertEqual(ran.returncode, 0, ran.stderr)
+        self.assertIn(" is dropped", ran.stdout)
 
 
 if __name__ == "__main__":

@@ -166,7 +166,7 @@ class FirstPage(unittest.TestCase):
         self.assertLessEqual(len(before.partition("cophy-pg setup")[0].split()), 100)
         self.assertLessEqual(len(before.split()), 150)
         self.assertLessEqual(len(result.split()), 150)
-        places = [page.index(it) for it in ("apt install", "cophy-pg setup", "advise shop", "undo=1")]
+        places = [page.index(it) for it in ("apt install", "cophy-pg setup", "advise shop", "cophy-pg make", "--undo")]
         self.assertEqual(places, sorted(places))
 
     def test_the_readme_leads_an_administrator_there_at_once(self) -> None:

@@ -115,7 +115,7 @@ class Asked(unittest.TestCase):
 
     def shown(self, *rows: tuple[str, bool]) -> tuple[list[int], bool]:
         given = self.given(*rows)
-        with mock.patch("cophy_pg.effect.made_by", return_value=["psql"]):
+        with mock.patch("cophy_pg.effect.made_by", return_value="psql"):
             document = described(given)
         self.assertEqual(document["make"], [] if given.is_all_there() else ["psql"])
         return [it["place"] for it in document["indexes"]], given.is_all_there()

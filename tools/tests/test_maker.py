@@ -1,178 +1,397 @@
-"""`make.sh`: what runs the script of a folder as the owner of the tables, without a password."""
+"""`make`: the indexes of a folder, made as the owner of their tables, and the role that is a member of it for that time."""
 from __future__ import annotations
 
-import getpass
+import argparse
+import json
 import os
+import pty
+import shlex
 import signal
 import subprocess
+import time
 import unittest
-from pathlib import Path
 from typing import Any
 from unittest import mock
 
-from fixtures import MISSING, InFolder
-from patience import LONG
+from fixtures import MISSING, TOOL, InFolder, OverOwn
+from patience import LONG, until
 from private_server import PrivateServer, program
 
-MADE = "SET ROLE boss; CREATE TABLE IF NOT EXISTS made_again (); \\echo :{?joined} :{?undo}\n"
 
-SENT = (signal.SIGHUP, signal.SIGINT, signal.SIGTERM)
+def row(at: int, owner: str | None = "boss", caveat: str | None = None, **more: Any) -> dict[str, Any]:
+    """A pick of a document."""
+    given = {
+        "table": "t",
+        "columns": [f"c{at}"],
+        "statements": [f"CREATE INDEX i{at};"],
+        "owner": owner,
+        "caveat": caveat,
+    }
+    return given | {"stored_pages": 128, "build_seconds": 2.0, "clustered": False, "number": at} | more
 
 
-def document(**more: Any) -> dict[str, Any]:
-    """A document with a pick."""
-    return {"owners": ["boss"], "host": "localhost", "port": 5433, "database": "a b", "picks": [{}]} | more
+def document(*picks: dict[str, Any], **more: Any) -> dict[str, Any]:
+    """A document with picks."""
+    given = {"owners": ["boss"], "host": "localhost", "port": 5433, "database": "a b", "picks": [*picks]}
+    return given | more
 
 
-class Text(unittest.TestCase):
-    def test_there_is_none_where_a_password_is_asked_for_or_owners_are_several(self) -> None:
-        from cophy_pg.maker import maker_of
+def words(**more: Any) -> argparse.Namespace:
+    """The words of a call."""
+    given = {"only": [], "without": [], "is_all": False, "undo": False, "psql": None, "is_owner": False}
+    return argparse.Namespace(**given | more)
 
-        table: list[dict[str, Any]] = [
-            {"host": "elsewhere"},
-            {"owners": ["boss", "other"]},
-            {"owners": []},
-            {"owners": ["b\u00f6ss"]},
-            {"owners": ["boss\nEND"]},
-            {"picks": []},
+
+class Chosen(unittest.TestCase):
+    """Which numbers are made, and how the script is told."""
+
+    def asked(self, *picks: dict[str, Any], **more: Any) -> tuple[list[int], str]:
+        from cophy_pg.maker import _chosen, _variables
+
+        places = [at for at, _ in _chosen(document(*picks), words(**more))]
+        return places, " ".join(_variables(document(*picks), places, words(**more)))
+
+    def test_it_is_what_is_recommended_unless_numbers_or_words_say_else(self) -> None:
+        picks = [row(1), row(2), row(3, caveat="it saves little"), row(4, caveat="it saves little")]
+        table: list[tuple[dict[str, Any], list[int], str]] = [
+            ({}, [1, 2], ""),
+            ({"without": [2]}, [1], "-v without=2"),
+            ({"is_all": True}, [1, 2, 3, 4], "-v all=1"),
+            ({"is_all": True, "without": [3]}, [1, 2, 4], "-v all=1 -v without=3"),
+            ({"only": [2]}, [2], "-v without=1"),
+            ({"only": [1, 4]}, [1, 4], "-v all=1 -v without=2,3"),
+            ({"only": [1, 2], "without": [1]}, [2], "-v without=1"),
+            ({"undo": True}, [1, 2, 3, 4], "-v undo=1"),
+            ({"undo": True, "only": [3]}, [3], "-v undo=1 -v without=1,2,4"),
         ]
-        for more in table:
-            self.assertEqual(maker_of(document(**more)), "", more)
-        self.assertIn("for that time a role and a member of boss", maker_of(document()))
-        user = mock.Mock(pw_name="postgres")
-        with mock.patch("pwd.getpwuid", return_value=user), mock.patch("cophy_pg.maker.is_user", return_value=False):
-            self.assertEqual(maker_of(document()), "", "its role is a superuser, which the script refuses")
+        for given, places, variables in table:
+            self.assertEqual(self.asked(*picks, **given), (places, variables), given)
+        self.assertEqual(self.asked(picks[2]), ([], ""))
+
+    def test_a_number_that_isnt_there_is_refused(self) -> None:
+        from cophy_pg.inputs import NoInput
+
+        for given in ({"only": [3]}, {"without": [0]}):
+            with self.assertRaisesRegex(NoInput, "there is no index [03]: they are 1 to 2"):
+                self.asked(row(1), row(2), **given)
+
+
+class Told(unittest.TestCase):
+    """What a person sees before anything is done."""
+
+    def told(self, *picks: dict[str, Any], given: dict[str, Any] | None = None, **more: Any) -> list[str]:
+        from cophy_pg.maker import _owners, _told
+
+        found, rows = document(*picks, **given or {}), [*enumerate(picks, 1)]
+        with mock.patch("getpass.getuser", return_value="you"):
+            return _told(found, rows, _owners(found, rows), words(**more))
+
+    def test_the_statements_the_size_the_time_and_the_role(self) -> None:
+        self.assertEqual(
+            self.told(row(1), row(2, statements=["CREATE INDEX \x1b[2J;", "ANALYZE t;"])),
+            [
+                "  1. CREATE INDEX i1;",
+                "  2. CREATE INDEX ?[2J;",
+                "  2. ANALYZE t;",
+                "2.0 MB, about 4 seconds, reads and writes go on; database 'a b', as cophy_maker, which "
+                "'sudo -u postgres psql' makes a member of their owner boss, and then drops.",
+            ],
+        )
+        self.assertEqual(
+            self.told(row(1), row(2, owner="root"), undo=True),
+            [
+                "  1. t(c1)",
+                "  2. t(c2)",
+                "Of these what was made; database 'a b', as cophy_maker, which 'sudo -u postgres psql' makes a member of "
+                "their owner boss, and then drops; as their owner root.",
+            ],
+        )
+        self.assertIn("CLUSTER locks its table, readers too", self.told(row(1, clustered=True))[-1])
+        lines = self.told(*(row(at) for at in range(1, 31)))
+        self.assertEqual(lines[20:-1], ["and 10 more"])
+
+    def test_where_no_role_is_made_it_is_the_owner(self) -> None:
+        far = {"host": "elsewhere"}
+        for given, more, wanted in (
+            (far, {}, "as their owner boss."),
+            ({}, {"is_owner": True}, "as their owner boss."),
+            (
+                far,
+                {"psql": "psql -h elsewhere -U admin"},
+                "as cophy_maker, which 'psql -h elsewhere -U admin' makes a member",
+            ),
+        ):
+            self.assertIn(wanted, self.told(row(1), given=given, **more)[-1])
+
+    def test_whose_tables_they_are_has_to_be_known(self) -> None:
+        from cophy_pg.inputs import NoInput
+
+        with self.assertRaisesRegex(NoInput, "who owns the tables"):
+            self.told(row(1, owner=None), given={"owners": []})
+
+
+class Connected(unittest.TestCase):
+    """How psql is called."""
+
+    def called(self, owner: str, **more: Any) -> str:
+        from cophy_pg.maker import _connected
+
+        given = document(row(1), owners=[owner], **more)
+        with mock.patch("getpass.getuser", return_value="you"), _connected(given, owner, words()) as (
+            psql,
+            environment,
+        ):
+            self.assertFalse({"PGHOST", "PGOPTIONS", "PGSERVICE"} & {*environment})
+            return shlex.join(psql)
+
+    def test_who_is_a_user_here_runs_it_and_elsewhere_its_password_is_asked_for(self) -> None:
+        with mock.patch.dict("os.environ", {"PGHOST": "x", "PGOPTIONS": "-c role=x", "PGSERVICE": "x"}):
+            self.assertEqual(self.called("root"), "sudo -u root psql -X -p 5433 -d 'a b'")
+            self.assertEqual(self.called("root", host="/run/db"), "sudo -u root psql -X -p 5433 -d 'a b' -h /run/db")
+            self.assertEqual(self.called("boss", host="far"), "psql -X -p 5433 -d 'a b' -h far -U boss")
 
     def test_a_database_is_no_connection(self) -> None:
-        from cophy_pg.closing import command_of
-        from cophy_pg.maker import maker_of
-
         for name, word in (
             ("host=it's", """ -d 'dbname='"'"'host=it\\'"'"'s'"'"'' """),
             ("postgres://x", """ -d 'dbname='"'"'postgres://x'"'"'' """),
-            ("a b", " -d 'a b' "),
         ):
-            given = document(database=name)
-            self.assertIn(word, maker_of(given))
-            self.assertIn(word, command_of(given, "indexes.sql", "boss"))
-
-    def test_who_is_a_user_here_runs_it(self) -> None:
-        from cophy_pg.maker import maker_of
-
-        for user, run in (("you", "sudo -u root psql"), ("root", "psql")):
-            with mock.patch("getpass.getuser", return_value=user):
-                line = maker_of(document(owners=["root"], picks=[{"caveat": "it is small"}])).splitlines()[-1]
-            self.assertEqual(line, f"""{run} -X -p 5433 -d 'a b' -v all=1 "$@" < "$here/indexes.sql\"""")
+            self.assertIn(word, self.called("boss", host="far", database=name))
 
 
 @unittest.skipIf(MISSING, MISSING)
-class Member(InFolder):
-    """Who isn't the owner becomes a member for as long as the script runs."""
+class Joined(InFolder):
+    """The role is a member for as long as that is asked for."""
 
     def setUp(self) -> None:
+        from cophy_pg.superuser import Superuser
+
         super().setUp()
         self.server = PrivateServer()
         self.addCleanup(self.server.stop)
-        (self.folder / "sudo").write_text('#!/bin/sh\nshift 2\nPGUSER=cophy exec "$@"\n')
-        (self.folder / "runuser").write_text('#!/bin/sh\nshift 3\nPGUSER=cophy exec "$@"\n')
-        for name in ("sudo", "runuser"):
-            (self.folder / name).chmod(0o755)
-        (self.folder / "indexes.sql").write_text(MADE)
+        psql = [str(program("psql")), "-h", str(self.server.folder), "-U", "cophy"]
+        self.superuser = Superuser(psql, {"PATH": "/usr/bin:/bin"})
 
-    def begun(self, owner: str, *words: str, shell: str = "sh", **more: str) -> subprocess.Popen[str]:
-        """The script of an owner, which runs."""
-        from cophy_pg.maker import maker_of
-
-        given = document(host=str(self.server.folder), port=5432, database="postgres", owners=[owner])
-        (self.folder / "make.sh").write_text(maker_of(given))
-        path = f"{self.folder}:{Path(str(program('psql'))).parent}:/usr/bin:/bin"
-        how = {"env": {"PATH": path, "PGUSER": "nobody"} | more, "text": True, "start_new_session": True}
-        # Who runs without a terminal may pass over some of these, and so would whom he starts.
-        how["preexec_fn"] = lambda: [signal.signal(it, signal.SIG_DFL) for it in SENT]
-        pipes = {"stdout": subprocess.PIPE, "stderr": subprocess.PIPE}
-        called = [shell, str(self.folder / "make.sh"), *words]
-        return subprocess.Popen(called, **how, **pipes)  # type: ignore[call-overload, no-any-return]
-
-    def made(self, owner: str, *words: str, **more: str) -> subprocess.CompletedProcess[str]:
-        """What the script of an owner does."""
-        begun = self.begun(owner, *words, **more)
-        out, err = begun.communicate(timeout=LONG)
-        return subprocess.CompletedProcess(begun.args, begun.returncode, out, err)
+    def roles(self) -> str:
+        return self.server.value("SELECT string_agg(rolname, ' ' ORDER BY 1) FROM pg_roles WHERE oid > 16000")
 
     def members(self) -> str:
-        """How many are members of roles that aren't PostgreSQL's own."""
-        return self.server.value("SELECT count(*) FROM pg_auth_members WHERE roleid > 16000")
+        """Who is a member of whom, of roles that aren't PostgreSQL's own."""
+        names = "member::regrole::text || ' of ' || roleid::regrole::text"
+        return self.server.value(f"SELECT string_agg({names}, ' ') FROM pg_auth_members WHERE roleid > 16000")
 
-    def is_role(self) -> str:
-        """Whether there is a role of ours."""
-        return self.server.value(f"SELECT count(*) FROM pg_roles WHERE rolname = '{getpass.getuser()}'")
+    def test_it_is_gone_behind_it_whatever_the_owner_is_called(self) -> None:
+        from cophy_pg.joined import joined
 
-    def test_it_is_a_role_and_a_member_no_longer_unless_it_was_one(self) -> None:
-        for owner in ("boss", "b\"o's\\s $(x)", "b`x`)\\n%s :x \\c", 'c\\0042 FROM d;ALTER ROLE "boss" SUPERUSER;--'):
+        for owner in (
+            "boss",
+            "b\"o's\\s $(x)",
+            "b`x`)\\n%s :x \\c",
+            'c\\0042 FROM d;ALTER ROLE "boss" SUPERUSER;--',
+            "a{b}\nc",
+        ):
             quoted = '"' + owner.replace('"', '""') + '"'
-            self.server.psql(f"CREATE ROLE {quoted}; GRANT ALL ON SCHEMA public TO {quoted}")
-            (self.folder / "indexes.sql").write_text(MADE.replace("boss", quoted))
-            for was, undo, shell in ((0, False, "sh"), (0, True, "bash"), (1, True, "sh")):
-                if was:
-                    self.server.psql(f'CREATE USER "{getpass.getuser()}" IN ROLE {quoted}')
-                ran = self.made(owner, *["-v", "undo=1"] * undo, shell=shell)
-                self.assertEqual(ran.returncode, 0, ran.stderr)
-                self.assertEqual(ran.stdout.split()[-2:], ["FALSE" if was else "TRUE", str(undo).upper()])
-                self.assertEqual((self.members(), self.is_role()), (str(was), str(was)))
-            self.server.psql(f'DROP TABLE made_again; DROP USER "{getpass.getuser()}"')
+            self.server.psql(f"CREATE ROLE {quoted}")
+            before = self.roles()
+            with joined(self.superuser, owner):
+                count = "SELECT count(*) FROM pg_auth_members WHERE roleid = '{}'::regrole"
+                self.assertEqual(self.server.value(count.format(quoted.replace("'", "''"))), "1", owner)
+                until = "SELECT rolvaliduntil < now() + interval '1 minute' AND rolconnlimit = 1 FROM pg_roles"
+                self.assertEqual(self.server.value(f"{until} WHERE rolname = 'cophy_maker'"), "t")
+            self.assertEqual((self.roles(), self.members()), (before, ""))
         self.assertEqual(self.server.value("SELECT rolsuper FROM pg_roles WHERE rolname = 'boss'"), "f")
 
-    def test_a_fault_is_the_status_and_leaves_no_membership(self) -> None:
+    def test_a_fault_and_a_signal_leave_nothing(self) -> None:
+        from cophy_pg.joined import joined
+        from cophy_pg.main import Ended
+
         self.server.psql("CREATE ROLE boss")
-        (self.folder / "indexes.sql").write_text("\\set ON_ERROR_STOP on\nSELECT 1/0;\n")
-        self.assertEqual(self.made("boss").returncode, 3)
-        self.assertEqual((self.members(), self.is_role()), ("0", "0"))
-        ran = self.made("stranger")
-        self.assertNotEqual(ran.returncode, 0)
-        self.assertIn('role "stranger" does not exist', ran.stderr)
+        with self.assertRaises(Ended), joined(self.superuser, "boss"):
+            raise Ended(signal.SIGINT)
+        self.assertEqual(self.roles(), "boss")
+        with self.assertRaises(Ended), joined(self.superuser, "boss"):
+            # Ctrl-C ends the session of the superuser too.
+            self.server.psql(
+                "SELECT pg_terminate_backend(pid) FROM pg_stat_activity WHERE application_name = 'psql' AND "
+                "pid <> pg_backend_pid()"
+            )
+            raise Ended(signal.SIGINT)
+        self.assertEqual(self.roles(), "boss")
 
-    def test_a_role_that_is_there_is_not_lent_to_the_owner(self) -> None:
-        """What the owner planted could give it a password, and have what else it may."""
-        self.server.psql(f'CREATE ROLE boss; CREATE USER "{getpass.getuser()}"')
-        ran = self.made("boss")
-        self.assertEqual((ran.returncode, ran.stdout), (1, ""))
-        self.assertIn("let boss run indexes.sql", ran.stderr)
-        self.assertEqual((self.members(), self.is_role()), ("0", "1"))
+    def test_one_that_was_left_is_made_anew_and_one_that_is_at_work_stays(self) -> None:
+        from cophy_pg.inputs import NoInput
+        from cophy_pg.joined import joined
 
-    def test_a_password_that_planted_code_gives_it_serves_nobody(self) -> None:
-        self.server.psql("CREATE ROLE boss")
-        (self.folder / "indexes.sql").write_text("ALTER ROLE CURRENT_USER PASSWORD 'known'; SELECT 1/0 AS told;\n")
-        self.assertIn("division", self.made("boss").stderr)
-        self.assertEqual(self.is_role(), "0")
+        self.server.psql("CREATE ROLE boss; CREATE ROLE other; CREATE ROLE cophy_maker LOGIN IN ROLE other")
+        with joined(self.superuser, "boss"):
+            self.assertEqual(self.members(), "cophy_maker of boss")
+        self.server.psql("CREATE ROLE cophy_maker LOGIN IN ROLE other")
+        sleeping = [str(program("psql")), "-X", "-c", "SELECT pg_sleep(600)"]
+        with subprocess.Popen(
+            sleeping, env=self.server.environment(PGUSER="cophy_maker"), stdout=subprocess.DEVNULL
+        ) as ran:
+            asked = "SELECT count(*) FROM pg_stat_activity WHERE usename = 'cophy_maker'"
+            until(lambda: self.server.value(asked) == "1", "the session of another call is there")
+            with self.assertRaisesRegex(NoInput, "did not make the role cophy_maker"), joined(self.superuser, "boss"):
+                self.fail("another is at work")
+            self.assertEqual(self.members(), "cophy_maker of other")
+            ran.kill()
 
-    def test_what_is_left_is_told(self) -> None:
+    def test_an_owner_that_isnt_there_is_refused(self) -> None:
+        from cophy_pg.inputs import NoInput
+        from cophy_pg.joined import joined
+
+        with self.assertRaises(NoInput), joined(self.superuser, "stranger"):
+            self.fail("there is none")
+        self.assertEqual(self.roles(), "")
+
+    def test_what_the_owner_planted_keeps_it_without_any_right_and_that_is_told(self) -> None:
+        from cophy_pg.joined import joined
+
         self.server.psql("CREATE ROLE boss; GRANT ALL ON SCHEMA public TO boss")
-        (self.folder / "indexes.sql").write_text("CREATE TABLE public.its_own ();\n")
-        ran = self.made("boss")
-        self.assertEqual(ran.returncode, 1)
-        self.assertIn(f"{getpass.getuser()} is left as a role", ran.stderr)
-        self.assertEqual((self.members(), self.is_role()), ("0", "1"))
+        with mock.patch("cophy_pg.joined.say") as said, joined(self.superuser, "boss"):
+            self.server.psql("CREATE TABLE public.its_own ()", PGUSER="cophy_maker")
+        self.assertIn("cophy_maker is left as a role", said.call_args[0][0])
+        self.assertEqual(
+            (self.members(), self.server.value("SELECT count(*) FROM pg_roles WHERE rolcanlogin AND oid > 16000")),
+            ("", "0"),
+        )
 
-    def test_what_is_broken_off_leaves_no_membership(self) -> None:
+    def test_a_password_that_planted_code_gives_it_serves_nobody_after_a_minute(self) -> None:
+        from cophy_pg.joined import joined
+
         self.server.psql("CREATE ROLE boss")
-        (self.folder / "indexes.sql").write_text("\\echo begun\n\\set ON_ERROR_STOP on\nSELECT pg_sleep(600);\n")
-        for sent in SENT:
-            begun = self.begun("boss")
-            assert begun.stdout is not None
-            self.assertEqual((begun.stdout.readline(), self.members()), ("begun\n", "1"))
-            os.killpg(begun.pid, sent)
-            begun.communicate(timeout=LONG)
-            self.assertNotEqual(begun.returncode, 0)
-            self.assertEqual((self.members(), self.is_role()), ("0", "0"), sent)
-            # A server that is asked to stop waits for them.
-            sleeping = "FROM pg_stat_activity WHERE query LIKE 'SELECT pg_sleep%'"
-            self.server.psql(f"SELECT pg_terminate_backend(pid) {sleeping}")
+        with joined(self.superuser, "boss"):
+            self.server.psql("ALTER ROLE cophy_maker PASSWORD 'known'", PGUSER="cophy_maker")
+            longer = "ALTER ROLE cophy_maker VALID UNTIL 'infinity'"
+            self.assertNotEqual(self.server.psql(longer, check=False, PGUSER="cophy_maker").returncode, 0)
+        self.assertEqual(self.roles(), "boss")
 
-    def test_the_environment_leads_nowhere_else(self) -> None:
-        self.server.psql("CREATE ROLE boss; GRANT ALL ON SCHEMA public TO boss")
-        elsewhere = {"PGHOST": "/nowhere", "PGHOSTADDR": "192.0.2.1", "PGSERVICE": "none", "CDPATH": "/"}
-        ran = self.made("boss", PGOPTIONS="-c role=none_such", **elsewhere)
-        self.assertEqual((ran.returncode, ran.stderr), (0, ""))
+
+@unittest.skipIf(MISSING, MISSING)
+class Made(OverOwn):
+    """The whole way, over a folder of two picks."""
+
+    database = "made_here"
+    content = """CREATE TABLE t (a int, b int); INSERT INTO t SELECT i, i % 9 FROM generate_series(1, 900) i; ANALYZE t;
+CREATE ROLE made_boss; ALTER TABLE t OWNER TO made_boss; GRANT ALL ON SCHEMA public TO made_boss;
+"""
+
+    def setUp(self) -> None:
+        super().setUp()
+        self.addCleanup(self.server.psql, "DROP INDEX IF EXISTS t_a_idx, t_b_idx", self.database)
+        names = self.in_folder("catalogue.toml", "workload.sql", "q.sql")
+        (self.folder / "q.sql").write_text("SELECT a FROM t WHERE b = 3;\n")
+        self.call("export", *names[:2], "--sql", names[2])
+        script = self.call("ddl", names[0], self.lay_advice(["t(a)", "t(b)"]), "--script").stdout
+        (self.folder / "indexes.sql").write_text(script)
+        picks = [
+            row(
+                at,
+                owner="made_boss",
+                table="t",
+                columns=[name],
+                name=f"t_{name}_idx",
+                statements=[f"CREATE INDEX ON t({name});"],
+            )
+            for at, name in enumerate("ab", 1)
+        ]
+        where = {"host": str(self.server.folder), "port": 5432, "database": self.database, "owners": ["made_boss"]}
+        (self.folder / "advice.json").write_text(json.dumps(document(*picks, version=1, **where)))
+        self.psql = shlex.join([str(program("psql")), "-h", str(self.server.folder), "-U", "cophy"])
+
+    def make(self, *more: str, status: int = 0) -> subprocess.CompletedProcess[str]:
+        self.server.release(self.database)
+        path = f"{os.path.dirname(str(program('psql')))}:{os.environ['PATH']}"
+        return self.call("make", str(self.folder), "--psql", self.psql, *more, status=status, PATH=path)
+
+    def there(self) -> str:
+        found = "SELECT string_agg(relname, ' ' ORDER BY relname) FROM pg_class WHERE relname LIKE 't\\__\\_idx'"
+        return self.server.value(found, self.database)
+
+    def test_they_are_made_by_the_owner_and_taken_back_one_by_one(self) -> None:
+        ran = self.make("--yes")
+        self.assertEqual(self.there(), "t_a_idx t_b_idx")
+        owner = "SELECT DISTINCT relowner::regrole FROM pg_class WHERE relname LIKE 't\\__\\_idx'"
+        self.assertEqual(self.server.value(owner, self.database), "made_boss")
+        lines = ran.stdout.splitlines()
+        self.assertEqual(lines[:2], ["  1. CREATE INDEX ON t(a);", "  2. CREATE INDEX ON t(b);"])
+        end = [
+            f"whether it helped: cophy-pg effect {self.folder}",
+            f"to take them back: cophy-pg make {self.folder} --undo",
+        ]
+        self.assertEqual(lines[-2:], end)
+        self.assertIn("\n1: t(a), about ", ran.stdout)
+        self.assertEqual(self.server.value("SELECT count(*) FROM pg_roles WHERE rolname = 'cophy_maker'"), "0")
+        self.make("--undo", "--only", "2", "--yes")
+        self.assertEqual(self.there(), "t_a_idx")
+        self.make("--undo", "--yes")
+        self.assertEqual(self.there(), "")
+        self.make("--only", "2", "--yes")
+        self.assertEqual(self.there(), "t_b_idx")
+
+    def test_nothing_is_done_unless_a_person_says_so(self) -> None:
+        ran = self.make(status=1)
+        self.assertIn("nobody is there to be asked: --yes asks nothing", ran.stderr)
+        self.assertEqual(self.there(), "")
+        for answer, wanted in (("n", ""), ("", ""), ("y", "t_a_idx")):
+            ours, theirs = pty.openpty()
+            path = f"{os.path.dirname(str(program('psql')))}:{os.environ['PATH']}"
+            given = [str(TOOL), "make", str(self.folder), "--psql", self.psql, "--only", "1"]
+            with subprocess.Popen(
+                given, stdin=theirs, stdout=subprocess.PIPE, text=True, env={**os.environ, "PATH": path}
+            ) as ran_:
+                os.write(ours, f"{answer}\n".encode())
+                said, _ = ran_.communicate(timeout=LONG)
+            os.close(ours)
+            os.close(theirs)
+            self.assertEqual((self.there(), ran_.returncode), (wanted, 0 if wanted else 1), said)
+            self.assertEqual("Nothing was changed." in said, not wanted)
+
+    def test_a_script_that_was_changed_isnt_run(self) -> None:
+        text = (self.folder / "indexes.sql").read_text()
+        (self.folder / "indexes.sql").write_text(text.replace('("a")', '("b")'))
+        ran = self.make("--yes", status=1)
+        self.assertIn("indexes.sql isn't as advise wrote it", ran.stderr)
+        (self.folder / "indexes.sql").write_text(f"-- looked at\n{text}")
+        self.make("--yes")
+        self.assertEqual(self.there(), "t_a_idx t_b_idx")
+
+    def test_where_nothing_is_recommended_nothing_is_made(self) -> None:
+        found = json.loads((self.folder / "advice.json").read_text())
+        for it in found["picks"]:
+            it["caveat"] = "it saves 0.4 %"
+        (self.folder / "advice.json").write_text(json.dumps(found))
+        self.assertEqual(self.make("--yes", status=3).stdout, "No index is recommended: --all makes the others.\n")
+        self.make("--all", "--yes")
+        self.assertEqual(self.there(), "t_a_idx t_b_idx")
+
+    def test_what_is_broken_off_leaves_no_role(self) -> None:
+        held = "BEGIN; LOCK t; SELECT 'held'; SELECT pg_sleep(600);"
+        path = f"{os.path.dirname(str(program('psql')))}:{os.environ['PATH']}"
+        given = [str(TOOL), "make", str(self.folder), "--psql", self.psql, "--yes"]
+        holder = [str(program("psql")), "-X", "-c", held]
+        with subprocess.Popen(holder, env=self.server.environment(self.database), stdout=subprocess.DEVNULL) as locked:
+            locks = "SELECT count(*) FROM pg_locks WHERE relation = 't'::regclass AND mode = 'AccessExclusiveLock'"
+            until(lambda: self.server.value(locks, self.database) == "1", "the table is locked")
+            for sent in (signal.SIGINT, signal.SIGTERM):
+                how = {"stdout": subprocess.DEVNULL, "stderr": subprocess.PIPE, "text": True, "start_new_session": True}
+                # Who runs without a terminal may pass over some of these, and so would whom he starts.
+                how |= {"preexec_fn": lambda: signal.signal(signal.SIGINT, signal.SIG_DFL)}
+                with subprocess.Popen(given, env={**os.environ, "PATH": path}, **how) as ran:  # type: ignore[call-overload]
+                    waiting = "SELECT count(*) FROM pg_stat_activity WHERE usename = 'cophy_maker' AND wait_event_type = 'Lock'"
+                    until(lambda: self.server.value(waiting) == "1", "the index waits for the lock")
+                    os.killpg(ran.pid, sent)
+                    ran.communicate(timeout=LONG)
+                self.assertNotEqual(ran.returncode, 0)
+                self.assertEqual(
+                    self.server.value("SELECT count(*) FROM pg_roles WHERE rolname = 'cophy_maker'"), "0", sent
+                )
+                until(lambda: self.server.value(waiting) == "0", "the server has ended it")
+            self.server.psql(
+                "SELECT pg_terminate_backend(pid) FROM pg_stat_activity WHERE query LIKE '%pg_sleep(600)%' AND "
+                "pid <> pg_backend_pid()"
+            )
+            locked.wait(LONG)
 
 
 if __name__ == "__main__":

@@ -77,6 +77,7 @@ class Summary(OverDocument):
 
     def test_the_details_say_which_sums_are_of_what_is_recommended(self) -> None:
         from cophy_pg.closing import next_of
+        from cophy_pg.folder import Folder
         from cophy_pg.overview import lines_of
 
         self.five()
@@ -97,7 +98,8 @@ class Summary(OverDocument):
         self.assertEqual([" ".join(it.split()) for it in lines[at + 1 : at + 3]], rows)
         self.assertIn("; most of the gap with all is t(c): so it is", lines[at + 3])
         self.assertEqual(lines[at + 4], "with all, those not recommended too, 5.0 MB stay free")
-        self.assertTrue(next_of(self.document, "x")[0].startswith("to make them in about 30 seconds, let "))
+        line = next_of(self.document, Folder("/a"))[0]
+        self.assertTrue(line.startswith("to make them in about 30 seconds: cophy-pg make /a; or their owner runs: "), line)
 
     def test_the_owner_who_is_a_user_here_needs_no_password(self) -> None:
         from cophy_pg.closing import command_of
@@ -140,17 +142,18 @@ class Summary(OverDocument):
     def test_how_one_index_is_left_out_is_told_below_them(self) -> None:
         from cophy_pg.overview import lines_of
 
-        line = "to leave some out, run the script with psql -v without=N,N, their numbers"
+        line = "to leave some out: cophy-pg make --without N,N, their numbers"
         self.assertNotIn(line, lines_of(self.document))
         self.document["picks"] *= 2
         self.assertIn(line, lines_of(self.document))
 
     def test_the_next_step_is_a_command_that_the_owner_may_take(self) -> None:
         from cophy_pg.closing import next_of
+        from cophy_pg.folder import Folder
 
         head, call = (
-            "to make them in about 7 seconds, let",
-            "run: psql -X -h '/run/db server' -p 5433 -d 'shop & <b>' -U",
+            "to make them in about 7 seconds: cophy-pg make /a; or",
+            "runs: psql -X -h '/run/db server' -p 5433 -d 'shop & <b>' -U",
         )
         for owners, text in (
             (["app"], f"their owner {call} app -f /a/indexes.sql"),
@@ -158,14 +161,14 @@ class Summary(OverDocument):
             ([], f"their owner {call} OWNER -f /a/indexes.sql"),
         ):
             with self.subTest(owners=owners):
-                found = next_of(self.document | {"owners": owners}, "/a/indexes.sql")
+                found = next_of(self.document | {"owners": owners}, Folder("/a"))
                 self.assertEqual(found, [f"{head} {text}"])
-        self.assertEqual(next_of(self.document | {"picks": []}, "x"), [])
+        self.assertEqual(next_of(self.document | {"picks": []}, Folder("/a")), [])
         doubt = "the advice stands unless you distrust 'app', who may"
-        lines = next_of(self.document | {"doubts": [doubt]}, "x")
+        lines = next_of(self.document | {"doubts": [doubt]}, Folder("/a"))
         self.assertEqual((len(lines), lines[-1]), (2, f"warning: {doubt}"))
         self.document["picks"][0].pop("build_seconds")
-        self.assertTrue(next_of(self.document, "x")[0].startswith("to make them, let "))
+        self.assertTrue(next_of(self.document, Folder("/a"))[0].startswith("to make them: cophy-pg make /a; or "))
 
 
 if __name__ == "__main__":

@@ -28,8 +28,8 @@ class Verdict(OverDocument):
         self.assertRegex(lines[at], r" 1\.    0\.2   16\.6 %  t0\(a\) +FROM t WHERE b = '<script>alert\.\.\.")
         end = [
             "all else: /home/you/advice/details.txt",
-            "make them (about 37 seconds, reads and writes go on), -v undo=1 takes them back:",
-            "sh /home/you/advice/make.sh",
+            "make them (about 37 seconds, reads and writes go on); it asks first, and --undo takes them back:",
+            "cophy-pg make /home/you/advice",
             "whether it helped: cophy-pg effect /home/you/advice",
         ]
         self.assertEqual(lines[-4:], end)
@@ -37,8 +37,10 @@ class Verdict(OverDocument):
         self.document["asked_pages"] = 2660
         self.assertEqual(self.verdict()[2], "No indexes within the budget save more by our model (proved).")
         self.document["asked_pages"] = 128 * 2048
+        # Of 9000 thousand, 7200 are saved, and 7204 at the most; a bound isn't rounded down.
         self.document["cost"]["bound"] = 1796000
-        self.assertTrue(self.verdict()[2].startswith("Others within the budget save at most 0.1 % of the cost more by"))
+        others = "By our model they save 80.0 % of the cost, no others within the budget over 80.1 % (proved)."
+        self.assertEqual(self.verdict()[2], others)
         self.document["recommended"]["picks"], self.document["picks"] = 1, self.document["picks"][:1]
         self.assertEqual(self.verdict()[0], "Make this index: 20.0 MB of the budget of 2,048.0 MB.")
         self.assertTrue(self.verdict()[1].startswith("It saves about 83 % of the 1.6 s measured for queries"))
@@ -49,7 +51,7 @@ class Verdict(OverDocument):
         self.document["recommended"]["stored_pages"] = 128 * 94
         # All save 83 %; the shared row of those under 1 % has its own words.
         for shares, size, wanted in (
-            ((40.0, 20.0, 16.0, 2.0, 2.9), 61, ["4 takes 61.0 MB for 2.0 %: -v without=4 leaves it out"]),
+            ((40.0, 20.0, 16.0, 2.0, 2.9), 61, ["4 takes 61.0 MB for 2.0 %: make --without 4 leaves it out"]),
             ((40.0, 20.0, 16.0, 2.0, 2.9), 23, []),
             ((40.0, 20.0, 16.0, 3.0, 2.9), 61, []),
             ((40.0, 20.0, 22.0, 0.9, 0.9), 61, []),
@@ -96,7 +98,7 @@ class Verdict(OverDocument):
         wanted = [
             " 1.    0.2   10.0 %  t0(a)     WHERE a = 3",
             " 2.    0.2    1.0 %  t1(a, b)  WHERE b > 5",
-            "3-5.   0.5    1.0 %  3 indexes that save less than 1 % each: -v without=3,4,5 leaves them out",
+            "3-5.   0.5    1.0 %  3 indexes that save less than 1 % each: make --without 3,4,5 leaves them out",
             "",
         ]
         self.assertEqual(lines[at : at + 4], wanted)
@@ -125,9 +127,9 @@ class Verdict(OverDocument):
         at = next(at for at, it in enumerate(lines) if it.startswith(" 5."))
         self.assertEqual(lines[at], " 5.    5.0 * 12.0 %  t9(lower(a))       WHERE lower(a) = 'a'")
         self.assertTrue(lines[at + 1].startswith("* judged by the server's planner alone: outside our model, "))
-        over = "1 more isn't recommended (4.0 MB, with which all are 1.0 MB over the budget; -v all=1 makes it too)"
+        over = "1 more isn't recommended (4.0 MB, with which all are 1.0 MB over the budget; make --all takes it too)"
         self.assertIn(over, lines)
-        self.assertIn("make them (about 33 seconds, reads and writes go on), -v undo=1 takes them back:", lines)
+        self.assertIn("make them (about 33 seconds, reads and writes go on); it asks first, and --undo takes them back:", lines)
         details = lines_of(self.document)
         self.assertTrue(details[0].startswith("5 indexes to make, 21.0 MB of 24.0 MB, and 1 not recommended, 4.0 MB: "))
         at = details.index("5. CREATE INDEX;")
@@ -203,9 +205,9 @@ class Verdict(OverDocument):
         self.assertEqual(lines[0], "Make these 3 indexes: 10.0 MB of the budget of 2,048.0 MB.")
         self.assertTrue(lines[1].startswith("They save about 24 % of the 3.0 s measured for queries, if"), lines[1])
         # They cost 2,700 of 9,000 by our model, and no others less than 1,800.
-        bound = "Others within the budget save at most 10.0 % of the cost more by our model (proved)."
+        bound = "By our model they save 70.0 % of the cost, no others within the budget over 80.0 % (proved)."
         self.assertEqual(lines[2], bound)
-        at = lines.index("2 more aren't recommended (10.0 MB; -v all=1 makes them too)")
+        at = lines.index("2 more aren't recommended (10.0 MB; make --all takes them too)")
         rows = [(it[:3], it.split()[4][:2]) for it in lines[at - 4 : at - 1]]
         self.assertEqual((rows, lines[at - 1]), ([(" 1.", "t0"), (" 2.", "t2"), (" 3.", "t4")], ""))
         self.assertNotIn("it saves 0.4 %", text)
@@ -228,10 +230,8 @@ class Verdict(OverDocument):
         self.document["recommended"] |= {"picks": 0, "stored_pages": 0}
         lines = self.verdict()
         self.assertTrue(lines[0].startswith("No index is plainly worth making for 'shop & <b>', judged by"), lines)
-        self.assertIn("10 aren't recommended (20.0 MB; -v all=1 makes them)", lines)
-        self.document["host"] = "elsewhere"
-        last = self.verdict()[-2]
-        self.assertTrue(last.endswith("-U app -v all=1 -f /home/you/advice/indexes.sql"), last)
+        self.assertIn("10 aren't recommended (20.0 MB; make --all takes them)", lines)
+        self.assertEqual(self.verdict()[-2], "cophy-pg make /home/you/advice --all")
         self.document["picks"] = []
         self.assertTrue(self.verdict()[0].startswith("No index is worth making for"))
 
@@ -288,18 +288,19 @@ class Verdict(OverDocument):
         self.assertIn(f"warning: {doubts[0].partition(';')[0]}", self.verdict())
 
     def test_each_owner_has_a_line_that_passes_over_the_tables_of_others(self) -> None:
+        from cophy_pg.closing import commands_of
+
         self.five()
         for at, it in enumerate(self.document["picks"]):
             it["owner"] = "app" if at % 2 else "root"
         self.document["picks"][0]["caveat"] = "it saves 0.4 %"
         self.document |= {"owners": ["root", "app", "none"], "host": "localhost", "port": 5432}
-        self.assertTrue(self.verdict()[-4].endswith(", a line for each owner, -v undo=1 takes them back:"))
         place = "-p 5432 -d 'shop & <b>'"
         wanted = [
             f"sudo -u root psql -X {place} -v without=1,3,5 < /home/you/advice/indexes.sql",
             f"psql -X -h localhost {place} -U app -v without=2,4,5 -f /home/you/advice/indexes.sql",
         ]
-        self.assertEqual(self.verdict()[-3:-1], wanted)
+        self.assertEqual(commands_of(self.document, "/home/you/advice/indexes.sql"), wanted)
 
     def test_what_an_unproved_program_answers_is_never_called_proved(self) -> None:
         from cophy_pg.overview import lines_of

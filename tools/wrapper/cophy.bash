@@ -36,7 +36,7 @@ _cophy_pg() {
     local rewriting=" --no-ranges --no-rows --no-limits --no-look-ups --no-deletes --no-insert-share"
     COMPREPLY=()
     if [ "$COMP_CWORD" -eq 1 ]; then
-        local words="advise effect report health daily changes edits setup snapshot export rewrite rules ddl verify why curve"
+        local words="advise make effect report health daily changes edits setup snapshot export rewrite rules ddl verify why curve"
         _cophy_words "$words --help --version" "$current"
         return
     fi
@@ -49,6 +49,7 @@ _cophy_pg() {
             ;;
         health) options+=" --folder --min-size --dsn --timeout --program --json" ;;
         changes) options+=" --json" ;;
+        make) options+=" --without --only --all --undo --yes --psql --as-owner" ;;
         effect) options+=" --dsn --timeout --i-trust-the-statements --json" ;;
         edits) options+=" --output --advise" ;;
         report) options+=" --output" ;;

@@ -27,7 +27,6 @@ from cophy_pg.folding import Folding
 from cophy_pg.included import searched_columns
 from cophy_pg.expression_hints import Hint, hints_of
 from cophy_pg.local import connect_as_set_up
-from cophy_pg.maker import maker_of
 from cophy_pg.making import ddl_text, in_order
 from cophy_pg.outcomes import Verdict
 from cophy_pg.overview import gain_of, lines_of, named
@@ -91,8 +90,7 @@ def advise(words: argparse.Namespace) -> int:
         details = "\n".join([*lines_of(document), *ending(document, kept)]) + "\n"
         text = details if words.verbose else "\n".join(verdict(document, kept)) + "\n"
         result = json.dumps(document, indent=2) + "\n"
-        maker = {folder.MAKE: it} if (it := maker_of(document)) else {}
-        kept.write({folder.RESULT: result, folder.SUMMARY: text, folder.DETAILS: details, **maker})
+        kept.write({folder.RESULT: result, folder.SUMMARY: text, folder.DETAILS: details})
     try:
         kept.write({folder.REPORT: page_of(kept)})
     except NoReport as fault:
@@ -169,9 +167,7 @@ class Run:
         """Takes away what an earlier call left in the folder."""
         files_of_steps = (folder.ADVICE, folder.CERTIFICATE, folder.CHECK, folder.VERIFY, folder.KEPT, folder.DDL)
         self.folder.clear(*files_of_steps, folder.PLANS, folder.SUMMARY, folder.RESULT, folder.REPORT)
-        self.folder.clear(
-            folder.RULES, folder.RULED, folder.CURVE, folder.DETAILS, folder.UNFINISHED, folder.EFFECT, folder.MAKE
-        )
+        self.folder.clear(folder.RULES, folder.RULED, folder.CURVE, folder.DETAILS, folder.UNFINISHED, folder.EFFECT)
 
     def _warnings(self, workload: Workload, prices: Prices) -> list[str]:
         """What to warn of, by prices without picks. In a file of SQL a statement has the weight that it was given."""

@@ -137,17 +137,18 @@ def proof_of(document: dict[str, Any]) -> str:
     return next((said for it, said in answers.items() if document["proved"].startswith(it)), "not checked")
 
 
-def next_of(document: dict[str, Any], script: str) -> list[str]:
-    """Who may run the script, and how, where it makes something; and who may have faked what was counted."""
+def next_of(document: dict[str, Any], kept: Folder) -> list[str]:
+    """What makes the indexes, or lets their owners do so by hand, where there are some; and who may have faked what was
+    counted."""
     doubts = [f"warning: {it}" for it in document.get("doubts", [])]
     if not rows_of(document):
         return doubts
     made = [it for _, it in rows_of(document) if not it.get("caveat")] or document["picks"]
     known = [it["build_seconds"] for it in made if it.get("build_seconds") is not None]
     time = f" in about {duration(sum(known))}" if known else ""
-    commands = commands_of(document, script)
-    whose = "their owner" if len(commands) < 2 else "the owner of each"
-    return [f"to make them{time}, let {whose} run: {'; '.join(commands)}", *doubts]
+    commands = commands_of(document, files.shown(kept.path(folder.DDL)))
+    who = "their owner runs" if len(commands) < 2 else "the owner of each runs"
+    return [f"to make them{time}: {made_by(document, kept)}; or {who}: {'; '.join(commands)}", *doubts]
 
 
 def commands_of(document: dict[str, Any], script: str) -> list[str]:
@@ -193,9 +194,14 @@ def is_user(name: str) -> bool:
 
 def ending(document: dict[str, Any], kept: Folder) -> list[str]:
     """Where all files are, who may run the script, and what says later what came of it."""
-    first, *doubts = next_of(document, files.shown(kept.path(folder.DDL))) or [""]
+    first, *doubts = next_of(document, kept) or [""]
     told = [first, *[seen_by(kept)] * bool(rows_of(document)), *doubts]
     return [f"all files are in {files.shown(kept.name)}", *filter(None, told)]
+
+
+def made_by(document: dict[str, Any], kept: Folder) -> str:
+    """What makes those that are recommended, or all where none is."""
+    return f"cophy-pg make {shlex.quote(kept.name)}{' --all' * (not made_of(document))}"
 
 
 def seen_by(kept: Folder) -> str:

@@ -10,14 +10,13 @@ from cophy_text.files import NoFile
 from cophy_text.shown import short
 from cophy_pg import folder, inputs
 from cophy_pg.changes import Found
-from cophy_pg.closing import doubts_of, made_hints, recommended_of, time_falls
+from cophy_pg.closing import doubts_of, made_by, made_hints, recommended_of, time_falls
 from cophy_pg.effect_text import lines_of
 from cophy_pg.folder import Folder
 from cophy_pg.guesses import seconds_of
 from cophy_pg.included import searched_columns
 from cophy_pg.inputs import NoInput
 from cophy_pg.local import connect_as_set_up, is_told_where
-from cophy_pg.maker import made_by
 from cophy_pg.measured import Load, Measured, a_call, called_since, given_of, load_of, slower_of, told_of, writes_of
 from cophy_pg.outcomes import Verdict
 from cophy_pg.overview import told_as
@@ -247,5 +246,5 @@ def described(given: Given) -> dict[str, Any]:
             for it in given.stands
             if it in asked or it.is_there
         ],
-        "make": [] if given.is_all_there() else made_by(given.document, given.kept),
+        "make": [] if given.is_all_there() else [made_by(given.document, given.kept)],
     }

@@ -23,7 +23,6 @@ UNFINISHED = "unfinished.txt"
 DATABASE = "database.toml"
 """The catalogue with all tables, also those that no statement names."""
 CHANGES, CHANGES_JSON = "changes.txt", "changes.json"
-MAKE = "make.sh"
 EFFECT = "effect.json"
 """A snapshot, as snapshot.json is one, of when `effect` first saw that all indexes stand."""
 

@@ -21,6 +21,7 @@ from cophy_pg.export import add_export, add_rewrite
 from cophy_text.files import ENDS, NoFile
 from cophy_pg.health import add_health
 from cophy_pg.inputs import NoInput
+from cophy_pg.maker import add_make
 from cophy_pg.making import add_ddl
 from cophy_pg.page import NoReport, add_report
 from cophy_pg.program import ProgramFault
@@ -37,7 +38,7 @@ from cophy_text.answers import NoAnswer
 PAGE = Path(__file__).resolve().parents[3] / "docs" / "POSTGRES.md"
 PACKED = "/usr/share/doc/cophy-pg/POSTGRES.md.gz"
 BEGIN = """cophy-pg setup DATABASE makes a role that only reads and two extensions, then prints the line to type next.
-Nothing else changes on the server until you run the script that advise writes.
+Nothing else changes on the server until you call cophy-pg make, which shows what and asks.
 All commands: cophy-pg --help; manual: {}"""
 
 
@@ -50,6 +51,7 @@ def main() -> int:
     for add in (
         add_setup,
         add_advise,
+        add_make,
         add_effect,
         add_report,
         add_health,

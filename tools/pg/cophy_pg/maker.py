@@ -1,92 +1,222 @@
-"""`make.sh`: runs the script of a folder as the one owner of its tables, where that takes no password."""
+"""`make`: makes the indexes of a folder of `advise` as the owner of their tables, or takes them back."""
 from __future__ import annotations
 
+import argparse
 import os
-import pwd
 import shlex
+import signal
+import subprocess
+import sys
+from collections.abc import Iterator
+from contextlib import contextmanager, suppress
 from typing import Any
 
+from cophy_text import files
+from cophy_text.shown import printable, space
 from cophy_pg import folder
-from cophy_pg.closing import commands_of, is_here, is_user, rows_of
+from cophy_pg.changes import Found
+from cophy_pg.closing import commands_of, is_here, is_user, made_by, rows_of, seen_by
 from cophy_pg.folder import Folder
-from cophy_pg.local import run_as
-from cophy_pg.server import database_word, quoted_name
+from cophy_pg.inputs import NoInput
+from cophy_pg.joined import MAKER, joined
+from cophy_pg.local import PORT, run_as
+from cophy_pg.making import numbers
+from cophy_pg.overview import told_as
+from cophy_pg.progress import say
+from cophy_pg.script import is_unchanged
+from cophy_pg.server import database_word
+from cophy_pg.speed import duration
+from cophy_pg.superuser import Superuser
 
-SUPERUSER = "postgres"
-"""Whose own role is one that the script refuses."""
-
-HEAD = """#!/bin/sh
-# Runs indexes.sql as {who}. More words go to psql: -v undo=1 takes all back.
-unset PGHOST PGHOSTADDR PGOPTIONS PGSERVICE PGUSER
-here=$(CDPATH= cd -- "$(dirname -- "$0")" && pwd) && cd / || exit
-"""
-OWN = """{run} psql -X {at} "$@" < "$here/indexes.sql"
-"""
-MEMBER = """superuser() {{ {run} psql -X -q -A -t -v ON_ERROR_STOP=1 {place} -d postgres; }}
-join() {{ superuser <<'END'
-SET search_path TO pg_catalog, pg_temp;
-SET standard_conforming_strings TO on;
-SELECT count(*) > 0 AS is_member FROM pg_auth_members
-WHERE roleid = '{owner_text}'::regrole AND member = to_regrole('{member_text}') \\gset
-\\if :is_member
-\\else
-    CREATE USER {member} IN ROLE {owner};
-    \\echo made
-\\endif
-END
-}}
-leave() {{ superuser <<'END'
-REVOKE {owner} FROM {member};
-DROP USER {member};
-END
-}}
-trap : HUP INT QUIT TERM
-made=$(join) || {{ printf '%s\\n' {refused} >&2; exit 1; }}
-[ "$made" != made ] || set -- -v joined=1 "$@"
-psql -X {at} "$@" -f "$here/indexes.sql"
-status=$?
-[ "$made" != made ] || leave || {{ printf '%s\\n' {left} >&2; status=1; }}
-exit $status
-"""
-"""The role is made for that time alone, since code that the owner planted could use it, as to give it a password. One that
-is there has to be a member already. Names stand in documents of the shell: an echo takes some backslashes for quotes."""
+NOTHING = 3
+"""The status where nothing is to be made."""
+MOST_SHOWN = 20
+"""So many indexes are shown before they are made."""
+PATIENCE = 10
+"""For so many seconds a psql that was broken off may cancel what it does."""
+ELSEWHERE = {"PGHOST", "PGHOSTADDR", "PGPORT", "PGDATABASE", "PGUSER", "PGOPTIONS", "PGSERVICE", "PGSERVICEFILE"}
+"""Variables that would lead psql to another server, or change its session."""
+Row = tuple[int, dict[str, Any]]
 
 
-def maker_of(document: dict[str, Any]) -> str:
-    """The script of a document; nothing where it would ask for a password, or would have to be several."""
-    owners, host = document["owners"], str(document.get("host") or "")
-    names = [*owners, str(document["database"])]
-    ours = pwd.getpwuid(os.geteuid()).pw_name
-    if len(owners) != 1 or not is_here(document) or not rows_of(document):
-        return ""
-    if not all(it.isascii() and it.isprintable() for it in (*names, ours)):
-        return ""
-    place = shlex.join([*["-h", host] * host.startswith("/"), "-p", str(document.get("port") or 5432)])
-    at = f"{place} -d {shlex.quote(database_word(names[1]))}"
-    at += " -v all=1" * all(it.get("caveat") for _, it in rows_of(document))
-    (owner,) = owners
-    if is_user(owner):
-        who = f"{owner}, who owns the tables"
-        return HEAD.format(who=who) + OWN.format(run=shlex.join(run_as(owner)), at=at).lstrip()
-    if ours == SUPERUSER:
-        return ""
-    who = f"{ours}, for that time a role and a member of {owner}, who owns the tables"
-    role, member = quoted_name(owner), quoted_name(ours)
-    texts = {"owner_text": role.replace("'", "''"), "member_text": member.replace("'", "''")}
-    refused = f"not made. If {ours} is a role already, let {owner} run indexes.sql, or make {ours} its member yourself,"
-    told = {
-        "refused": f"{refused} where code of {owner} may do all that {ours} may",
-        "left": f"{ours} is left as a role, maybe a member of {owner}: REVOKE {role} FROM {member}; DROP USER {member}",
-    }
-    quoted = {it: shlex.quote(text) for it, text in told.items()}
-    run = shlex.join(run_as(SUPERUSER))
-    return HEAD.format(who=who) + MEMBER.format(
-        run=run, place=place, at=at, owner=role, member=member, **quoted, **texts
+def add_make(commands: argparse._SubParsersAction[argparse.ArgumentParser]) -> None:
+    """The words of `make`."""
+    parser = commands.add_parser(
+        "make",
+        help="make the indexes of a folder of advise, or take them back",
+        description="Shows the statements, asks, and lets psql run the folder's indexes.sql with the rights of the owner of the "
+        "tables: as that user of this machine, or as cophy_maker, a role that a superuser makes a member of the owner for that "
+        "time and drops. On a server elsewhere it connects as the owner, whose password psql asks for.",
+        epilog="The status is 0 where all that was asked for is there, 3 where nothing is recommended, and 1 else.",
     )
+    parser.add_argument("folder", metavar="FOLDER", nargs="?", help="the folder of advise (the last one here)")
+    parser.add_argument("--without", type=numbers, default=[], metavar="N,N,..", help="pass over these numbers")
+    parser.add_argument("--only", type=numbers, default=[], metavar="N,N,..", help="take these numbers alone")
+    parser.add_argument("--all", action="store_true", dest="is_all", help="make what isn't recommended too")
+    parser.add_argument("--undo", action="store_true", help="drop what was made from this folder, and nothing else")
+    parser.add_argument("--yes", action="store_true", dest="is_sure", help="ask nothing")
+    parser.add_argument(
+        "--psql",
+        metavar="COMMAND",
+        help="how psql is called as a superuser (sudo -u postgres psql), who makes the role cophy_maker",
+    )
+    parser.add_argument(
+        "--as-owner",
+        action="store_true",
+        dest="is_owner",
+        help="connect as the owner, whose password psql asks for, and let no superuser make a role",
+    )
+    parser.set_defaults(run=make)
 
 
-def made_by(document: dict[str, Any], kept: Folder) -> list[str]:
-    """What makes the indexes of a folder: its `make.sh`, or what each owner runs."""
-    if kept.has(folder.MAKE):
-        return [shlex.join(["sh", kept.path(folder.MAKE)])]
-    return commands_of(document, kept.path(folder.DDL))
+def make(words: argparse.Namespace) -> int:
+    """Makes the indexes, or drops what was made."""
+    kept = Folder(words.folder) if words.folder else Folder.last()
+    document = Found.of(kept.name).document
+    rows = _chosen(document, words)
+    if not rows:
+        print("No index is recommended: --all makes the others." if rows_of(document) else "There is no index to make.")
+        return NOTHING
+    owners = _owners(document, rows)
+    if not is_unchanged(kept.read(folder.DDL).decode(errors="replace")):
+        text = (
+            f"{files.shown(kept.path(folder.DDL))} isn't as advise wrote it: let the owner of the tables run it by psql"
+        )
+        raise NoInput(text)
+    print("\n".join(_told(document, rows, owners, words)), flush=True)
+    if not words.is_sure and not _is_agreed():
+        print("Nothing was changed.")
+        return 1
+    for owner in owners:
+        own = [at for at, it in rows if _owner(document, it) == owner]
+        if status := _run(document, kept, owner, _variables(document, own, words), words):
+            return status
+    print(_end(document, kept, words.undo))
+    return 0
+
+
+def _chosen(document: dict[str, Any], words: argparse.Namespace) -> list[Row]:
+    """What is made, or dropped: what the numbers say, or else what is recommended, or all."""
+    rows = rows_of(document)
+    for at in {*words.only, *words.without} - {at for at, _ in rows}:
+        raise NoInput(f"there is no index {at}: they are 1 to {len(rows)}")
+    every = words.undo or words.is_all
+    return [
+        (at, it)
+        for at, it in rows
+        if at not in words.without and (at in words.only if words.only else every or not it.get("caveat"))
+    ]
+
+
+def _owner(document: dict[str, Any], row: dict[str, Any]) -> str:
+    """The role that owns the table of an index."""
+    owner = row.get("owner") or next(iter(document["owners"]), None)
+    if not owner:
+        raise NoInput("the folder doesn't say who owns the tables: let their owner run indexes.sql")
+    return str(owner)
+
+
+def _owners(document: dict[str, Any], rows: list[Row]) -> list[str]:
+    """The owners of the tables, that of the first index first."""
+    return [*dict.fromkeys(_owner(document, it) for _, it in rows)]
+
+
+def _variables(document: dict[str, Any], places: list[int], words: argparse.Namespace) -> list[str]:
+    """What tells the script which numbers it takes."""
+    rows = rows_of(document)
+    is_all = words.undo or any(it.get("caveat") for at, it in rows if at in places)
+    without = [str(at) for at, it in rows if at not in places and (is_all or not it.get("caveat"))]
+    given = ["undo=1"] * words.undo + ["all=1"] * (is_all and not words.undo)
+    given += [f"without={','.join(without)}"] * bool(without)
+    return [word for it in given for word in ("-v", it)]
+
+
+def _told(document: dict[str, Any], rows: list[Row], owners: list[str], words: argparse.Namespace) -> list[str]:
+    """What is made with which statements, or dropped; as whom, and how long that takes."""
+    shown = rows[:MOST_SHOWN]
+    lines = [f"and {len(rows) - MOST_SHOWN} more"] * (len(rows) > MOST_SHOWN)
+    who = f"database {document['database']!a}, {'; '.join(_who(document, it, words) for it in owners)}"
+    if words.undo:
+        return [*(f"{at:>3}. {printable(told_as(it))}" for at, it in shown), *lines, f"Of these what was made; {who}."]
+    text = [f"{at:>3}. {printable(line)}" for at, it in shown for line in it["statements"]]
+    size, known = sum(it["stored_pages"] for _, it in rows), [it["build_seconds"] for _, it in rows]
+    locked = [it for _, it in rows if it.get("clustered")]
+    goes_on = "CLUSTER locks its table, readers too" if locked else "reads and writes go on"
+    time = f"about {duration(sum(known))}" if None not in known else "a time that isn't known"
+    return [*text, *lines, f"{space(size)}, {time}, {goes_on}; {who}."]
+
+
+def _who(document: dict[str, Any], owner: str, words: argparse.Namespace) -> str:
+    """As whom psql connects for the tables of an owner."""
+    name = printable(owner)
+    if _is_joined(document, owner, words):
+        superuser = words.psql or shlex.join([*run_as("postgres"), "psql"])
+        return f"as {MAKER}, which '{superuser}' makes a member of their owner {name}, and then drops"
+    return f"as their owner {name}"
+
+
+def _is_joined(document: dict[str, Any], owner: str, words: argparse.Namespace) -> bool:
+    """Whether a superuser makes a role that is a member of the owner."""
+    return not words.is_owner and bool(words.psql or is_here(document) and not is_user(owner))
+
+
+def _is_agreed() -> bool:
+    """Whether a person says yes."""
+    if not sys.stdin.isatty():
+        raise NoInput("nobody is there to be asked: --yes asks nothing")
+    with suppress(EOFError):
+        return input("Go on? [y/N] ").strip().lower() in ("y", "yes")
+    return False
+
+
+def _run(document: dict[str, Any], kept: Folder, owner: str, variables: list[str], words: argparse.Namespace) -> int:
+    """The status of psql over the script. That it didn't connect is told with what a person can do."""
+    script = kept.path(folder.DDL)
+    with _connected(document, owner, words) as (psql, environment), open(script, "rb") as text:
+        status = _wait([*psql, *variables], environment, text.fileno())
+    if status == 2:
+        by_hand = [it for it in commands_of(document, files.shown(script)) if owner in it] or [""]
+        say(f"psql could not connect, or lost the connection; with the password of {owner!a}: {by_hand[0]}")
+    return status
+
+
+@contextmanager
+def _connected(
+    document: dict[str, Any], owner: str, words: argparse.Namespace
+) -> Iterator[tuple[list[str], dict[str, str]]]:
+    """psql with the rights of an owner of tables, and its environment, as long as this lasts."""
+    environment = {it: value for it, value in os.environ.items() if it not in ELSEWHERE}
+    host, port = str(document.get("host") or ""), str(document.get("port") or PORT)
+    psql = ["psql", "-X", "-p", port, "-d", database_word(document["database"])]
+    if _is_joined(document, owner, words):
+        with joined(Superuser.of(words.psql, host, port), owner) as secret:
+            at = ["-h", host or "localhost", "-U", MAKER, "-v", "joined=1"]
+            yield [*psql, *at], environment | {"PGPASSWORD": secret}
+    elif is_here(document) and is_user(owner) and not words.is_owner:
+        yield [*run_as(owner), *psql, *(["-h", host] if host.startswith("/") else [])], environment
+    else:
+        yield [*psql, *(["-h", host] if host else []), "-U", owner], environment
+
+
+def _wait(command: list[str], environment: dict[str, str], script: int) -> int:
+    """The status of psql. What breaks this off lets psql cancel what the server does."""
+    try:
+        running = subprocess.Popen(command, stdin=script, env=environment, cwd="/")
+    except OSError as fault:
+        raise NoInput(f"{command[0]}: {fault.strerror}") from None
+    try:
+        return running.wait()
+    except BaseException:
+        # One that sudo began gets the signal of the terminal, and none of ours.
+        with suppress(PermissionError):
+            running.send_signal(signal.SIGINT)
+        with suppress(subprocess.TimeoutExpired):
+            running.wait(PATIENCE)
+        raise
+
+
+def _end(document: dict[str, Any], kept: Folder, is_undone: bool) -> str:
+    """What comes next."""
+    if is_undone:
+        return f"to make them again: {made_by(document, kept)}"
+    return f"{seen_by(kept)}\nto take them back: {made_by(document, kept)} --undo"

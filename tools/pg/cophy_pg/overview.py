@@ -129,9 +129,9 @@ def _hints(document: dict[str, Any]) -> list[str]:
         lines += [f"{what}: --include puts what is only read behind INCLUDE"]
     unadvised = [at for at, it in picks.items() if it.get("caveat")]
     if unadvised:
-        lines += [f"{in_row([str(at) for at in unadvised])} not recommended: the script makes such with -v all=1 alone"]
+        lines += [f"{in_row([str(at) for at in unadvised])} not recommended: cophy-pg make --all makes such too"]
     if len(picks) > 1:
-        lines += ["to leave some out, run the script with psql -v without=N,N, their numbers"]
+        lines += ["to leave some out: cophy-pg make --without N,N, their numbers"]
     return [*lines, ""] if lines else []
 
 

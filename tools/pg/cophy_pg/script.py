@@ -32,9 +32,19 @@ def script_text(
     """The script. It can be run again after a fault, and with `-v undo=1` it drops what it made. What stands at the unadvised
     places is made where that is asked for. `gains` says what picks bring, as they are shown."""
     text = _text(schema, made, head, speed, unadvised, gains)
+    return text.replace("'MARK'", f"'{_mark_of(text)}'", 1)
+
+
+def is_unchanged(text: str) -> bool:
+    """Whether a script is as it was written, but for its comments."""
+    found = re.search(r"'(cophy-pg, script [0-9a-f]{12})'", text)
+    return found is not None and found[1] == _mark_of(text.replace(found[0], "'MARK'", 1))
+
+
+def _mark_of(text: str) -> str:
+    """What marks the indexes of a script."""
     marked = "".join(it for it in text.splitlines() if not it.startswith("--"))
-    mark = f"cophy-pg, script {hashlib.sha256(marked.encode()).hexdigest()[:12]}"
-    return text.replace("'MARK'", f"'{mark}'", 1)
+    return f"cophy-pg, script {hashlib.sha256(marked.encode()).hexdigest()[:12]}"
 
 
 def _text(

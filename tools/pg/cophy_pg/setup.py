@@ -9,20 +9,19 @@ import os
 import secrets
 import shlex
 import shutil
-import subprocess
 import sys
 from contextlib import suppress
 from pathlib import Path
 
 from cophy_text import files
 from cophy_text.answers import counted
-from cophy_pg.no_connection import failed
 from cophy_pg.picks import home_of
 from cophy_pg.export import HIDDEN
 from cophy_pg.inputs import ADVISOR, NoInput, from_server, tell_short
-from cophy_pg.local import LOCAL, PORT, port_of, run_as
+from cophy_pg.local import port_of
 from cophy_pg.progress import say
-from cophy_pg.server import OWN, UNKNOWN, Server, ServerFault, connected, database_word, reading, reason
+from cophy_pg.server import OWN, Server, ServerFault, connected, reading
+from cophy_pg.superuser import Superuser
 
 SCRIPT = Path(__file__).resolve().parent / "advisor_role.sql"
 ROUNDS = 4096
@@ -59,44 +58,19 @@ def setup(words: argparse.Namespace) -> int:
         raise NoInput("name the database: cophy-pg setup DATABASE")
     host = os.environ.get("PGHOST") or "localhost"
     port = port_of(host)
-    superuser = shlex.split(words.psql) if words.psql else _superuser(host, port)
-    kept = {it: value for it, value in os.environ.items() if not it.startswith("PG") or words.psql and it != "PGUSER"}
-    superuser += ["-d", database_word(database)]
-    _run(superuser, kept, files.read(str(SCRIPT)).decode())
+    superuser = Superuser.of(words.psql, host, port)
+    made = superuser.run(database, files.read(str(SCRIPT)).decode(), "-v", "statements=counted")
+    for it in (it for it in made.splitlines() if it.startswith(MADE)):
+        say(it)
     given = {it: os.environ[it] for it in ("PGHOST", "PGPORT") if os.environ.get(it)}
     given |= {"PGUSER": ADVISOR} if os.environ.get("PGUSER") else {}
     os.environ |= {"PGHOST": host, "PGPORT": port, "PGDATABASE": database, "PGUSER": ADVISOR}
     if not _is_known():
         secret = secrets.token_urlsafe(24)
-        _run(superuser, kept, f"{OWN} ALTER ROLE {ADVISOR} PASSWORD '{verifier_of(secret)}';")
+        superuser.run(database, f"{OWN} ALTER ROLE {ADVISOR} PASSWORD '{verifier_of(secret)}';")
         _keep(host, port, secret)
     with connected() as server, reading(server):
         return _tell(server, database, given)
-
-
-def _run(superuser: list[str], environment: dict[str, str], text: str) -> None:
-    """Hands a script to psql, of whose standard output what it made is told. Its status 2 says that it didn't connect."""
-    given = [*superuser, "-X", "-q", "-v", "statements=counted", "-v", "ON_ERROR_STOP=1"]
-    try:
-        how = {"stdout": subprocess.PIPE, "stderr": subprocess.PIPE, "env": environment, "errors": "replace"}
-        ran = subprocess.run(given, input=text, text=True, check=False, **how)  # type: ignore[call-overload]
-    except OSError as fault:
-        raise NoInput(f"{given[0]}: {fault.strerror}") from None
-    if ran.returncode == 2 and reason(Exception(ran.stderr)) != UNKNOWN:
-        host, port = environment.get("PGHOST", ""), os.environ.get("PGPORT") or PORT
-        raise NoInput(failed(superuser, environment, port, ran.stderr, host in ("", *LOCAL) or host.startswith("/")))
-    sys.stderr.write(ran.stderr)
-    for it in (it for it in ran.stdout.splitlines() if it.startswith(MADE)):
-        say(it)
-    if ran.returncode:
-        raise NoInput(f"the superuser's script failed: {shlex.join(superuser)} answers with status {ran.returncode}")
-
-
-def _superuser(host: str, port: str) -> list[str]:
-    """How psql is called as the superuser postgres of this machine."""
-    if host not in LOCAL and not host.startswith("/"):
-        raise NoInput("the server is on another machine: --psql 'psql -h HOST -U postgres' names its superuser")
-    return [*run_as("postgres"), "psql", "-p", port, *(["-h", host] if host.startswith("/") else [])]
 
 
 def _is_known() -> bool:

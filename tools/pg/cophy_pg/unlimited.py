@@ -30,20 +30,21 @@ def may_exceed(columns: Iterable[Column]) -> list[str]:
 
 def exceeding(schema: Schema, pick: Candidate) -> list[str]:
     """Such columns of a pick, by their names in the catalogue, which end no comment."""
-    try:
-        table, columns = names_of(schema, pick)
-    except NoIndex:
-        return []
-    return may_exceed(table.columns[it] for it in columns)
+    return may_exceed(_columns_of(schema, pick))
 
 
 def likely(schema: Schema, pick: Candidate) -> list[str]:
     """Those of them of which a value may be as long by the statistics: where they have the lengths of values, none is."""
+    return may_exceed(it for it in _columns_of(schema, pick) if _may_be_long(it))
+
+
+def _columns_of(schema: Schema, pick: Candidate) -> list[Column]:
+    """The columns of a pick; none of one that PostgreSQL can't make."""
     try:
-        table, columns = names_of(schema, pick)
+        table, names = names_of(schema, pick)
     except NoIndex:
         return []
-    return may_exceed(it for it in map(table.columns.__getitem__, columns) if _may_be_long(it))
+    return [table.columns[it] for it in names]
 
 
 def _may_be_long(column: Column) -> bool:
@@ -54,11 +55,7 @@ def _may_be_long(column: Column) -> bool:
 def far_longer(schema: Schema, pick: Candidate) -> list[str]:
     """Of the columns of a pick those of which all values that the statistics have are so short that one that exceeds an entry isn't
     to be expected."""
-    try:
-        table, columns = names_of(schema, pick)
-    except NoIndex:
-        return []
-    listed = map(table.columns.__getitem__, columns)
+    listed = _columns_of(schema, pick)
     return [it.shown for it in listed if it.sizes and max(it.sizes) * FAR_LONGER <= ENTRY]
 
 

@@ -1,7 +1,7 @@
 """What `advise` prints: a verdict, the indexes, and the one command that makes them. All else is counted."""
 from __future__ import annotations
 
-import shlex
+from math import ceil
 from typing import Any
 
 from cophy_text import files
@@ -10,9 +10,9 @@ from cophy_text.keys import ENTRY
 from cophy_text.shown import about, grouped, percent, share, space
 from cophy_pg import folder
 from cophy_pg.closing import (
-    commands_of,
     doubts_of,
     is_hint,
+    made_by,
     made_hints,
     pages_of,
     proof_of,
@@ -24,7 +24,6 @@ from cophy_pg.closing import (
 from cophy_pg.folder import Folder
 from cophy_pg.guesses import is_judged, saved_of, seconds_of
 from cophy_pg.hints import ALONE, hints_shown
-from cophy_pg.maker import maker_of
 from cophy_pg.overview import headline, measured, much_skipped, part_of, purpose, time_of, told_as, unhelped, user_of
 from cophy_pg.recommended import LITTLE
 from cophy_pg.searches import CUT, OVER, WELL_FILLED
@@ -62,12 +61,8 @@ def verdict(document: dict[str, Any], kept: Folder) -> list[str]:
     if picks:
         known = [it["build_seconds"] for _, it in advised or picks if it.get("build_seconds") is not None]
         time = f" (about {duration(sum(known))}, reads and writes go on)" if known and not _locks(document) else ""
-        maker = maker_of(document)
-        commands = (
-            [shlex.join(["sh", kept.path(folder.MAKE)])] if maker else commands_of(document, kept.path(folder.DDL))
-        )
-        each = ", a line for each owner" * (len(commands) > 1)
-        lines += [f"make them{time}{each}, -v undo=1 takes them back:", *commands, seen_by(kept)]
+        lines += [f"make them{time}; it asks first, and --undo takes them back:", made_by(document, kept)]
+        lines += [seen_by(kept)]
     return lines
 
 
@@ -84,7 +79,7 @@ def _sentences(document: dict[str, Any], count: int) -> list[str]:
     return [
         f"Make {make}: {space(pages_of(document))} of the budget of {space(document['asked_pages'])}.",
         f"{they} {_saved(document)}.",
-        f"{_best(document)} by our model ({proof_of(document)}).",
+        f"{_best(document, they)} ({proof_of(document)}).",
     ]
 
 
@@ -105,15 +100,17 @@ def _percent_saved(document: dict[str, Any]) -> float:
     return picks + float(sum(it["saves"]["server"] for it in made_hints(document)))
 
 
-def _best(document: dict[str, Any]) -> str:
+def _best(document: dict[str, Any], they: str) -> str:
     """What no indexes save more than, and how much of the budget stays free for that, where it is much."""
     ours, cost, asked = document["cost"], recommended_of(document)["cost"], document["asked_pages"]
     left = asked - pages_of(document)
     if cost == ours["bound"]:
         free = f"{space(left)} left: nothing fitting saves more"
-        return free if left > asked * (1 - WELL_FILLED) else "No indexes within the budget save more"
-    more = share(cost - ours["bound"], ours["before"])
-    return f"Others within the budget save at most {'0.1 %' if more == '0.0 %' else more} of the cost more"
+        begin = free if left > asked * (1 - WELL_FILLED) else "No indexes within the budget save more"
+        return f"{begin} by our model"
+    saved, most = ours["before"] - cost, ceil(1000 * (ours["before"] - ours["bound"]) / ours["before"]) / 10
+    others = f"no others within the budget over {percent(most)}"
+    return f"By our model {they[0].lower()}{they[1:]} {share(saved, ours['before'])} of the cost, {others}"
 
 
 def _is_well_judged(document: dict[str, Any]) -> bool:
@@ -149,7 +146,7 @@ def _notes(advised: list[Row], document: dict[str, Any]) -> list[str]:
     much = [it for it in _apart(advised)[0] if saved_of(it[1]) < little and it[1]["stored_pages"] > MUCH_SPACE * size]
     for at, it in much[:1]:
         what = f"{at} takes {space(it['stored_pages'])} for {percent(saved_of(it))}"
-        lines += [f"{what}: -v without={at} leaves it out"]
+        lines += [f"{what}: make --without {at} leaves it out"]
     summed = sum(saved_of(it) for _, it in advised)
     if advised and abs(summed - whole) >= FEW:
         why = "others stand in for one that is missing" if summed < whole else "some save only together"
@@ -188,7 +185,7 @@ def _together(little: list[Row]) -> str:
     """Picks that save little with what they take and save together, and how the script passes over them."""
     begin = _begin(f"{little[0][0]}-{little[-1][0]}.", sum(it["stored_pages"] for _, it in little))
     what = f"{len(little)} indexes that save less than {LITTLE} % each"
-    passed = f"-v without={','.join(str(at) for at, _ in little)} leaves them out"
+    passed = f"make --without {','.join(str(at) for at, _ in little)} leaves them out"
     return f"{begin}  {percent(sum(saved_of(it) for _, it in little)):>7}  {what}: {passed}"
 
 
@@ -209,7 +206,7 @@ def _unadvised(document: dict[str, Any]) -> list[str]:
     more = document["stored_pages"] - recommended_of(document)["stored_pages"] + pages_of(document)
     over = more - document["asked_pages"]
     too_much = f", with which all are {space(over)} over the budget" if over > 0 else ""
-    return [f"{what} ({size}{too_much}; -v all=1 makes {'it' if count == 1 else 'them'}{' too' * made})"]
+    return [f"{what} ({size}{too_much}; make --all takes {'it' if count == 1 else 'them'}{' too' * made})"]
 
 
 def _rest(document: dict[str, Any], kept: Folder) -> list[str]:
