@@ -158,14 +158,12 @@ class Savings(unittest.TestCase):
 
 
 class FirstPage(unittest.TestCase):
-    """What a person reads of POSTGRES.md before the first advice: little, with all commands in their order."""
+    """What a person has to read of POSTGRES.md: little, with all commands in their order."""
 
-    def test_it_is_read_in_less_than_two_minutes_and_has_all_commands(self) -> None:
+    def test_it_is_read_in_a_minute_and_has_all_commands(self) -> None:
         page, _ = (ROOT / "docs/POSTGRES.md").read_text().split("\nThat is all that is needed.")
-        before, result, _ = page.rsplit("```\n", 2)
-        self.assertLessEqual(len(before.partition("cophy-pg setup")[0].split()), 100)
-        self.assertLessEqual(len(before.split()), 150)
-        self.assertLessEqual(len(result.split()), 150)
+        self.assertLessEqual(len(page.partition("```\n")[0].split()), 100)
+        self.assertLessEqual(len(page.split()), 200)
         places = [page.index(it) for it in ("apt install", "cophy-pg setup", "advise shop", "cophy-pg make", "--undo")]
         self.assertEqual(places, sorted(places))
 
