@@ -74,22 +74,6 @@ class Build(OverCopy):
         self.assertEqual({it.split()[-1] for it in called[3:]}, {"top", "other"})
         self.assertEqual(list(room.iterdir()), [])
 
-    def test_a_process_that_steps_back_gives_way_to_those_of_other_sessions(self) -> None:
-        from cophy_wrapper.process import BACK, Process
-
-        for steps_back in (True, False):
-            with (self.copy.folder / "said").open("wb") as said:
-                process = Process(["sleep", "60"], self.copy.folder, said, steps_back)
-            self.addCleanup(process.end)
-            number = process._process.pid
-            ours = os.getpriority(os.PRIO_PROCESS, 0)
-            wanted = min(19, ours + BACK) if steps_back else ours
-            self.assertEqual(os.getpriority(os.PRIO_PROCESS, number), wanted)
-            # A system without autogroups shares its processors out among all processes.
-            with contextlib.suppress(OSError):
-                told = Path(f"/proc/{number}/autogroup").read_text()
-                self.assertEqual(told.endswith(f" nice {BACK}\n"), steps_back, told)
-
     def test_where_a_program_stands_crates_are_proved_in_turn_in_the_checkout(self) -> None:
         self.copy.build()
         (self.copy.root / "out" / "built").unlink()

@@ -25,11 +25,10 @@ class Lane:
         self.process: Process | None = None
         self.said: IO[bytes] | None = None
 
-    def begin(self, crate: str, jobs: int, steps_back: bool) -> None:
-        """Begins to prove a crate with so many processes."""
+    def begin(self, crate: str, command: list[str]) -> None:
+        """Begins to prove a crate."""
         self.said = tempfile.TemporaryFile()
-        command = ["rt", "lib", "--jobs", str(jobs)]
-        self.process = Process(command, self.folder / "crates" / crate, self.said, steps_back)
+        self.process = Process(command, self.folder / "crates" / crate, self.said)
         self.crate = crate
 
     def has_ended(self) -> bool:
@@ -80,8 +79,7 @@ class SideBySide:
         for lane in self.lanes:
             crate = self._next_crate() if lane.crate is None else None
             if crate is not None:
-                is_first = self._is_first(crate)
-                lane.begin(crate, self.most if is_first else 1, steps_back=not is_first)
+                lane.begin(crate, self._command(crate))
         return any(it.crate is not None for it in self.lanes)
 
     def _next_crate(self) -> str | None:
@@ -90,10 +88,12 @@ class SideBySide:
         ready = [it for it, below in self.below.items() if it not in begun and self.proved.issuperset(below)]
         return max(ready, key=lambda it: self.behind[it]) if ready else None
 
-    def _is_first(self, crate: str) -> bool:
-        """Whether a crate is the one for which the most waits: it is proved with several processes, each other one with one
-        that steps back."""
-        return all(self.behind[it.crate] < self.behind[crate] for it in self.lanes if it.crate is not None)
+    def _command(self, crate: str) -> list[str]:
+        """What proves a crate: with several processes if it is the one for which the most waits, else with one that steps
+        back."""
+        if all(self.behind[it.crate] < self.behind[crate] for it in self.lanes if it.crate is not None):
+            return ["rt", "lib", "--jobs", str(self.most)]
+        return ["nice", "rt", "lib", "--jobs", "1"]
 
     def is_done(self) -> bool:
         """Whether all crates are proved."""

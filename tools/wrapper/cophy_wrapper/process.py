@@ -4,22 +4,14 @@ from __future__ import annotations
 import os
 import signal
 import subprocess
-from contextlib import suppress
 from pathlib import Path
 from typing import IO
-
-
-BACK = 10
-"""How far one steps back that others wait for less: among all processes, and where the system shares its processors out among
-sessions (autogroups of Linux), among these, since no process of one would give way to those of another."""
 
 
 class Process:
     """A command that runs in a session of its own, so that all its processes can be ended."""
 
-    def __init__(
-        self, command: list[str], folder: Path, said: IO[bytes], steps_back: bool = False, **environment: str
-    ) -> None:
+    def __init__(self, command: list[str], folder: Path, said: IO[bytes], **environment: str) -> None:
         self._process = subprocess.Popen(
             command,
             cwd=folder,
@@ -29,11 +21,6 @@ class Process:
             stderr=subprocess.STDOUT,
             start_new_session=True,
         )
-        if steps_back:
-            with suppress(OSError):
-                os.setpriority(os.PRIO_PGRP, self._process.pid, os.getpriority(os.PRIO_PROCESS, 0) + BACK)
-            with suppress(OSError):
-                Path(f"/proc/{self._process.pid}/autogroup").write_text(str(BACK))
 
     def status(self) -> int | None:
         """The status with which it came to an end, if it did."""
