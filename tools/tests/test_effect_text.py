@@ -31,11 +31,13 @@ class Text(unittest.TestCase):
         ]
         listed = [
             {"numbers": [at], "sql": "S" * 60, "helped": True, "slower": False, "calls": 9, "before": 3000.0}
+            | {"indexes": [], "main": []}
             | {"since": 40.0 * at}
             for at in range(1, statements + 1)
         ]
         every: dict[str, Any] = {"calls": 9, "before": 3.14, "since": 0.4}
         counted = {"begin": "indexes", **every, "writes": every | {"calls": 0}, "all": every, "statements": listed}
+        counted |= {"not_called": []}
         cost = {"statements": 9, "of": 9, "before": 200.0, "now": 20.0, "advised": 9.0, "time": None}
         document = {"version": 1, "database": "d", "made": "", "source": "pg_stat_statements", "indexes": indexes}
         document |= {"make": ["psql"] * (count >= 10), "server_cost": cost, "counted": counted} | more
@@ -50,7 +52,7 @@ class Text(unittest.TestCase):
         self.assertEqual(lines[2:4], ["All 9 calls took 0.0036 s, at the times before 0.0283.", saved])
         self.assertRegex(lines[6], r"^ 1\. +0  t1\(a+\.\.\.$")
         self.assertEqual(lines[7], " 2.             1  t2(aaa)")
-        self.assertEqual(lines[10], f"{'3,000.0':>10} {'40.0':>10} {'9':>11}  {'S' * 60}")
+        self.assertEqual(lines[10], f"{'3,000.0':>9} {'40.0':>9} {'9':>11}        {'S' * 60}")
         for count, statements in ((21, 0), (10, 10), (3, 90), (90, 90)):
             lines = lines_of(self.found(count, statements))
             self.assertLessEqual(len(lines), 26 if count <= 12 else 21)
@@ -85,6 +87,16 @@ class Text(unittest.TestCase):
             it |= {"calls": calls, "before": before, "since": since, "slower": since > 1.5 * before}
         numbers = [it.split()[2] for it in self.rows(found)]
         self.assertEqual(numbers, ["900,000", "90", "80", "70", "3", "10"])
+
+    def test_what_each_index_was_made_for_has_the_first_rows(self) -> None:
+        found = self.found(3, 20)
+        last = found["counted"]["statements"][-1]
+        last |= {"indexes": [1, 3], "main": [3], "before": 2.0, "since": 2.0, "sql": "SELECT 1"}
+        found["counted"]["not_called"] = [2]
+        rows = self.rows(found)
+        self.assertEqual(rows[0], "      2.0       2.0           9   1,3  SELECT 1")
+        self.assertTrue(rows[1].startswith("  3,000.0      40.0           9        SSS"), rows[1])
+        self.assertEqual(rows[-1], "not called since: those of 2")
 
     def busy(self, others: dict[str, Any] | None = None) -> list[str]:
         """What is printed of 7 indexes, two of which weren't made, and 7 statements that they help."""

@@ -24,12 +24,18 @@ class Times(unittest.TestCase):
             {"numbers": [at], "sql": f"SELECT {at}", "role": "app", "calls": 10, "seconds": 0.01, "picks": picks}
             for at, picks in enumerate(([1], [2], [], [], []), 1)
         ]
-        hint = {"place": 3, "why_not": None, "changes": [{"numbers": [3]}]}
+        gain = {"numbers": [3], "ours": 0.0, "server": 5.0}
+        hint = {"place": 3, "why_not": None, "saves": {"planned": 1.0}, "changes": [gain]}
         self.document: dict[str, Any] = {"statements": self.statements, "picks": [], "hints": [hint]}
         self.then = Snapshot("7", {digest(self.input(at, 10, 0.01)): Count(10, 0.01, 0.0) for at in range(1, 6)}, "d")
 
     def input(self, at: int, calls: int, seconds: float) -> Input:
         return Input(f"SELECT {at}", calls, seconds, 0.0, role="app", path=("sales",))
+
+    def pick(self, place: int, servers: dict[int, float]) -> dict[str, Any]:
+        """A pick with what it saves of statements by the server."""
+        changes = [{"numbers": [at], "ours": 0.0, "server": it} for at, it in servers.items()]
+        return {"place": place, "saves": {"planned": 1.0}, "changes": changes}
 
     def measured(self, *counts: tuple[int, float], there: tuple[int, ...] = (1, 3)) -> list[tuple[int, bool, int]]:
         """The numbers of the statements, whether an index helps them, and their calls since."""
@@ -46,6 +52,17 @@ class Times(unittest.TestCase):
         self.assertAlmostEqual(self.times[0], 1.0)
         self.assertAlmostEqual(self.times[1], 15 / 110)
         self.assertEqual([it[0] for it in self.measured(*counts, there=(2,))], [2])
+
+    def test_each_has_the_numbers_of_what_helps_it_and_of_what_it_gains_the_most_by(self) -> None:
+        self.document["picks"] = [self.pick(1, {2: -1.0, 4: 9.0, 1: 3.0}), self.pick(2, {1: 4.0})]
+        now = [self.input(at, 20, 0.015) for at in range(1, 6)]
+        for there, wanted in (
+            ((1, 3), {1: ((1,), ()), 2: ((), ()), 3: ((3,), (3,)), 4: ((1,), (1,)), 5: ((), ())}),
+            ((1, 2), {1: ((1, 2), (2,)), 2: ((2,), ()), 3: ((), ()), 4: ((1,), (1,)), 5: ((), ())}),
+        ):
+            found = called_since(Snapshot("7", {}, "d"), now, self.then, self.document, self.paths, there)
+            self.assertEqual({it.numbers[0]: (it.indexes, it.main) for it in found}, wanted)
+            self.assertEqual([it.is_helped for it in found], [bool(it.indexes) for it in found])
 
     def test_what_got_much_slower_is_told_too(self) -> None:
         counts = (20, 0.011), (10, 0.01), (10, 0.01), (20, 0.03), (20, 0.021)
@@ -95,7 +112,7 @@ class Times(unittest.TestCase):
             found = called_since(Snapshot("7", {}, "d"), now, self.then, self.document, self.paths, there)
             return sorted(it.numbers[0] for it in found if it.is_other)
 
-        self.document["picks"] = [{"place": 1, "changes": [{"numbers": [4]}]}]
+        self.document["picks"] = [self.pick(1, {4: -1.0})]
         self.assertEqual(others((1, 3)), [2, 5])
         self.assertEqual(others((3,)), [1, 2, 4, 5])
         # What the advice left out isn't known.

@@ -17,7 +17,18 @@ from cophy_pg.guesses import seconds_of
 from cophy_pg.included import searched_columns
 from cophy_pg.inputs import NoInput
 from cophy_pg.local import connect_as_set_up, is_told_where
-from cophy_pg.measured import Load, Measured, a_call, called_since, given_of, load_of, slower_of, told_of, writes_of
+from cophy_pg.measured import (
+    Load,
+    Measured,
+    a_call,
+    called_since,
+    given_of,
+    load_of,
+    mains_of,
+    slower_of,
+    told_of,
+    writes_of,
+)
 from cophy_pg.outcomes import Verdict
 from cophy_pg.overview import told_as
 from cophy_pg.paths import Paths, read_paths
@@ -160,7 +171,8 @@ def _counted(server: Server, given: Given, is_trusted: bool) -> dict[str, Any] |
     _keep(given, now, stood is not None)
     for it in doubts_of(given.document | {"doubts": doubts}):
         say(f"warning: {it}")
-    return _times(begin, found)
+    seen = {at for it in found for at in it.main}
+    return _times(begin, found) | {"not_called": sorted({*mains_of(given.document, there)} - seen)}
 
 
 def _stood(given: Given) -> Snapshot | None:
@@ -192,6 +204,8 @@ def _times(begin: str, found: list[Measured]) -> dict[str, Any]:
             "numbers": it.numbers,
             "sql": short(it.sql),
             "helped": it.is_helped,
+            "indexes": [*it.indexes],
+            "main": [*it.main],
             "slower": it in slower,
             "calls": it.calls,
             "before": round(it.before, 6),

@@ -24,7 +24,9 @@ def lines_of(found: dict[str, Any]) -> list[str]:
     least = LEAST if len(indexes) > MOST_INDEXES else len(indexes)
     rows = min(len(indexes), max(least, room - min(len(statements), MOST_STATEMENTS)))
     others = min(MOST_STATEMENTS, max(LEAST, room - rows))
-    return [*head, *_indexes(indexes, rows), *_statements(statements, others), *end]
+    places = {it["place"] for it in _shown(indexes, rows)}
+    uncalled = [it for it in found["counted"]["not_called"] if it in places] if statements else []
+    return [*head, *_indexes(indexes, rows), *_statements(statements, others, places), *_uncalled(uncalled), *end]
 
 
 def _sentences(found: dict[str, Any]) -> list[str]:
@@ -135,7 +137,7 @@ def _changed(every: list[dict[str, Any]]) -> list[dict[str, Any]]:
     def is_shown(it: dict[str, Any]) -> bool:
         change = abs(it["since"] - it["before"])
         is_felt = change >= FELT or _change(it) >= LITTLE * whole
-        return bool(it["slower"]) or change >= CHANGED * it["before"] and is_felt
+        return bool(it["slower"] or it["main"]) or change >= CHANGED * it["before"] and is_felt
 
     return sorted(filter(is_shown, every), key=lambda it: -_change(it))
 
@@ -149,32 +151,54 @@ def _indexes(indexes: list[dict[str, Any]], most: int) -> list[str]:
     """A row for each index; where they are more, for those that aren't there and the first others, and one for the rest."""
     if not indexes:
         return []
-    by_need = sorted(indexes, key=lambda it: (it["state"] == THERE, it["place"]))
-    shown = by_need if len(indexes) <= most else by_need[: most - 1]
+    shown = _shown(indexes, most)
     lines = ["", f"{'scans':>17}  index"]
     for it in sorted(shown, key=lambda it: int(it["place"])):
         uses, number = grouped(it["scans"]) if it["state"] == THERE else it["state"], f"{it['place']}."
         lines += [f"{number:>3} {uses:>13}  {short(it['index'], 80)}"]
-    rest = by_need[len(shown) :]
+    rest = [it for it in indexes if it not in shown]
     scans = [it["scans"] for it in rest if it["state"] == THERE]
     used = f"{len(scans)} are there, {sum(it > 0 for it in scans)} of them in use"
     return lines + [f"and {len(rest)} more, of which {used}"] * bool(rest)
 
 
-def _statements(every: list[dict[str, Any]], most: int) -> list[str]:
-    """A row for each statement that gained or lost the most, and for the first that got slower."""
+def _shown(indexes: list[dict[str, Any]], most: int) -> list[dict[str, Any]]:
+    """The indexes that have rows."""
+    by_need = sorted(indexes, key=lambda it: (it["state"] == THERE, it["place"]))
+    return by_need if len(indexes) <= most else by_need[: most - 1]
+
+
+def _statements(every: list[dict[str, Any]], most: int, places: set[int]) -> list[str]:
+    """A row for the statement that gains the most by each index that has one, then for each that gained or lost the most,
+    and for the first that got slower."""
     if not every:
         return []
-    slower = [it for it in every if it["slower"]][:MOST_SLOWER]
-    others = [it for it in every if it not in slower][: most - len(slower)]
-    shown = [it for it in every if it in slower or it in others]
-    lines = ["", f"{'ms before':>10} {'ms since':>10} {'calls':>11}  statement"]
+    mains = sorted((it for it in every if places & {*it["main"]}), key=lambda it: min(places & {*it["main"]}))
+    rest = [it for it in every if it not in mains]
+    slower = [it for it in rest if it["slower"]][:MOST_SLOWER]
+    others = [it for it in rest if it not in slower][: max(0, most - len(slower) - len(mains))]
+    shown = [*mains, *(it for it in rest if it in slower or it in others)]
+    lines = ["", f"{'ms before':>9} {'ms since':>9} {'calls':>11} {'index':>5}  statement"]
     lines += [
-        f"{_ms(it['before']):>10} {_ms(it['since']):>10} {grouped(it['calls']):>11} {'!' if it['slower'] else ' '}{it['sql']}"
+        f"{_ms(it['before']):>9} {_ms(it['since']):>9} {grouped(it['calls']):>11} {_numbers(it):>5}"
+        f" {'!' if it['slower'] else ' '}{it['sql']}"
         for it in shown
     ]
     more = len(every) - len(shown)
     return lines + [f"and {grouped(more)} more"] * bool(more)
+
+
+def _numbers(it: dict[str, Any]) -> str:
+    """The numbers of the indexes that help a statement, where they are many those first by which it gains the most of all."""
+    listed = it["indexes"]
+    if len(listed) > 3:
+        listed = [*it["main"], *(at for at in listed if at not in it["main"])][:2] + [".."]
+    return ",".join(map(str, listed))
+
+
+def _uncalled(places: list[int]) -> list[str]:
+    """The indexes whose main statements weren't called."""
+    return [f"not called since: those of {', '.join(map(str, places))}"] * bool(places)
 
 
 def _rest(found: dict[str, Any]) -> list[str]:

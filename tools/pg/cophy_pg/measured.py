@@ -9,6 +9,7 @@ from typing import Any
 
 from cophy_pg.closing import made_hints
 from cophy_pg.inputs import Input
+from cophy_pg.overview import user_of
 from cophy_pg.paths import Paths
 from cophy_pg.snapshots import Snapshot, digest, since
 
@@ -26,7 +27,8 @@ _WRITES = re.compile(rf"\b(?:{'|'.join(WRITES)})\b", re.IGNORECASE)
 @dataclass(frozen=True)
 class Measured:
     """A statement of the folder: its numbers, whether an index that is there helps it by the advice, its calls since then,
-    the milliseconds a call before and since, its calls before, and whether it is a read that no such index touches."""
+    the milliseconds a call before and since, its calls before, whether it is a read that no such index touches, the places of
+    those that help it, and of those by which it gains the most of all."""
 
     numbers: list[int]
     sql: str
@@ -36,6 +38,8 @@ class Measured:
     since: float
     earlier: int = ENOUGH
     is_other: bool = False
+    indexes: tuple[int, ...] = ()
+    main: tuple[int, ...] = ()
 
     @property
     def saved(self) -> float:
@@ -67,19 +71,29 @@ def called_since(
 ) -> list[Measured]:
     """The statements that were called since then, those that saved the most first. Indexes at these places are there."""
     counted = {digest(it): it for it in since(listed, then, now.begun, now.database)}
-    hinted = _changed(made_hints(document), there)
-    changed = hinted | _changed(document["picks"], there)
+    hints, mains = made_hints(document), mains_of(document, there)
+    changed = _changed(hints, there) | _changed(document["picks"], there)
     found = list[Measured]()
     for it in document["statements"]:
         called = counted.get(digest(given_of(it, paths)))
         if called is None or not it["calls"] or it["seconds"] is None:
             continue
         before, after = 1000 * it["seconds"] / it["calls"], 1000 * (called.seconds or 0.0) / called.calls
-        is_helped = bool({*it["picks"]} & {*there} or {*it["numbers"]} & hinted)
+        main = {at for at, numbers in mains.items() if it["numbers"] and it["numbers"] == numbers}
+        hinted = {hint["place"] for hint in hints if {*it["numbers"]} & _changed([hint], there)}
+        indexes = {*it["picks"]} & {*there} | hinted | main
         is_known = bool(it["numbers"]) and not {*it["numbers"]} & changed
-        is_other = is_known and not is_helped and not _WRITES.search(it["sql"])
-        found.append(Measured(it["numbers"], it["sql"], is_helped, called.calls, before, after, it["calls"], is_other))
+        is_other = is_known and not indexes and not _WRITES.search(it["sql"])
+        more = it["calls"], is_other, (*sorted(indexes),), (*sorted(main),)
+        found.append(Measured(it["numbers"], it["sql"], bool(indexes), called.calls, before, after, *more))
     return sorted(found, key=lambda it: (-it.saved, it.numbers))
+
+
+def mains_of(document: dict[str, Any], there: Collection[int]) -> dict[int, list[int]]:
+    """The statement that gains the most by each index that is there, as the summary names it, by the places of these."""
+    rows = [*document["picks"], *made_hints(document)]
+    users = {it["place"]: user_of(it) for it in rows if it["place"] in there}
+    return {place: it["numbers"] for place, it in users.items() if it}
 
 
 def _changed(rows: Iterable[dict[str, Any]], there: Collection[int]) -> set[int]:
