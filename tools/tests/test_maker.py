@@ -112,7 +112,7 @@ class Told(unittest.TestCase):
 
     def test_where_no_role_is_made_it_is_the_owner(self) -> None:
         far = {"host": "elsewhere"}
-        for given, more, wanted in (
+        table: list[tuple[dict[str, Any], dict[str, Any], str]] = [
             (far, {}, "as their owner boss."),
             ({}, {"is_owner": True}, "as their owner boss."),
             (
@@ -120,7 +120,8 @@ class Told(unittest.TestCase):
                 {"psql": "psql -h elsewhere -U admin"},
                 "as cophy_maker, which 'psql -h elsewhere -U admin' makes a member",
             ),
-        ):
+        ]
+        for given, more, wanted in table:
             self.assertIn(wanted, self.told(row(1), given=given, **more)[-1])
 
     def test_whose_tables_they_are_has_to_be_known(self) -> None:
@@ -374,10 +375,15 @@ CREATE ROLE made_boss; ALTER TABLE t OWNER TO made_boss; GRANT ALL ON SCHEMA pub
             locks = "SELECT count(*) FROM pg_locks WHERE relation = 't'::regclass AND mode = 'AccessExclusiveLock'"
             until(lambda: self.server.value(locks, self.database) == "1", "the table is locked")
             for sent in (signal.SIGINT, signal.SIGTERM):
-                how = {"stdout": subprocess.DEVNULL, "stderr": subprocess.PIPE, "text": True, "start_new_session": True}
+                how: dict[str, Any] = {
+                    "stdout": subprocess.DEVNULL,
+                    "stderr": subprocess.PIPE,
+                    "text": True,
+                    "start_new_session": True,
+                }
                 # Who runs without a terminal may pass over some of these, and so would whom he starts.
                 how |= {"preexec_fn": lambda: signal.signal(signal.SIGINT, signal.SIG_DFL)}
-                with subprocess.Popen(given, env={**os.environ, "PATH": path}, **how) as ran:  # type: ignore[call-overload]
+                with subprocess.Popen(given, env={**os.environ, "PATH": path}, **how) as ran:
                     waiting = "SELECT count(*) FROM pg_stat_activity WHERE usename = 'cophy_maker' AND wait_event_type = 'Lock'"
                     until(lambda: self.server.value(waiting) == "1", "the index waits for the lock")
                     os.killpg(ran.pid, sent)

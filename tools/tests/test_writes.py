@@ -44,8 +44,7 @@ class Writes(unittest.TestCase):
         self.assertEqual(rows, [both, ("UPDATE", "u", 7, 2, 2, 1, []), ("UPDATE", "w", 6, 1, 1, 2, [])])
         line = "writes: INSERT and UPDATE of t have 2 indexes more to keep (4 to 6)"
         self.assertEqual(
-            told(found),
-            [f"{line}, UPDATE of u has 2 indexes more to keep (1 to 3), writes of 1 other table have more indexes too"],
+            told(found), [f"{line}, UPDATE of u has 2 indexes more to keep (1 to 3), those of 1 other table too"]
         )
         # Those are told first that can't be HOT any more.
         rare = found[2] | {"not_hot": ["a"], "path": "s.w"}

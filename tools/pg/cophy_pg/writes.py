@@ -86,7 +86,7 @@ def told(writes: list[dict[str, Any]]) -> list[str]:
     """The line about the first ones, where there are any, and how many others there are."""
     shown = [_told(it) for it in writes[:MOST_TABLES]]
     others = counted(len(writes) - MOST_TABLES, "other table")
-    shown += [f"writes of {others} have more indexes too"] * (len(writes) > MOST_TABLES)
+    shown += [f"those of {others} too"] * (len(writes) > MOST_TABLES)
     return [f"writes: {', '.join(shown)}"] * bool(shown)
 
 
