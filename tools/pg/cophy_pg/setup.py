@@ -1,4 +1,4 @@
-"""`setup`: the role and the extensions that `advise` needs, made once by a superuser; what is missing, and the next command."""
+"""`setup`: the role and the extensions that `advise` needs, made once by a superuser; what is missing, the next command."""
 from __future__ import annotations
 
 import argparse
@@ -9,20 +9,21 @@ import os
 import secrets
 import shlex
 import shutil
-import subprocess
 import sys
 from contextlib import suppress
 from pathlib import Path
 
 from cophy_text import files
 from cophy_text.answers import counted
-from cophy_pg.no_connection import failed
 from cophy_pg.picks import home_of
 from cophy_pg.export import HIDDEN
 from cophy_pg.inputs import ADVISOR, NoInput, from_server, tell_short
-from cophy_pg.local import LOCAL, PORT, port_of, run_as
+from cophy_pg.local import port_of
+from cophy_pg.passwords import keep
 from cophy_pg.progress import say
-from cophy_pg.server import OWN, UNKNOWN, Server, ServerFault, connected, database_word, reading, reason
+from cophy_pg.server import OWN, Server, ServerFault, connected, reading
+from cophy_pg.superuser import Superuser
+from cophy_pg.undo import undo
 
 SCRIPT = Path(__file__).resolve().parent / "advisor_role.sql"
 ROUNDS = 4096
@@ -41,7 +42,8 @@ def add_setup(commands: argparse._SubParsersAction[argparse.ArgumentParser]) -> 
         description="Lets a superuser run advisor_role.sql in a database: the role cophy_advisor, which only reads, and the "
         "extensions hypopg and pg_stat_statements, each in a schema of its own. Gives the role a password, which goes to "
         "~/.pgpass, unless one there serves; says what is missing, and prints the next command.",
-        epilog="The status is 0 where advise can be called, and 1 where something is missing.",
+        epilog="The status is 0 where advise can be called, and 1 where something is missing; with --undo 0 where nothing of "
+        "it is left, and 1 where something couldn't be dropped.",
     )
     parser.add_argument("database", metavar="DATABASE", nargs="?", help="the database (PGDATABASE)")
     parser.add_argument(
@@ -49,54 +51,32 @@ def add_setup(commands: argparse._SubParsersAction[argparse.ArgumentParser]) -> 
         metavar="COMMAND",
         help="how psql is called as a superuser (sudo -u postgres psql); elsewhere such as 'psql -h HOST -U postgres'",
     )
+    parser.add_argument("--undo", action="store_true", help="take back what setup made; what was there before stays")
     parser.set_defaults(run=setup)
 
 
 def setup(words: argparse.Namespace) -> int:
-    """Makes what is to be made, and says what is missing."""
+    """Makes what is to be made, and says what is missing; or takes it back."""
     database = words.database or os.environ.get("PGDATABASE")
     if not database:
         raise NoInput("name the database: cophy-pg setup DATABASE")
     host = os.environ.get("PGHOST") or "localhost"
     port = port_of(host)
-    superuser = shlex.split(words.psql) if words.psql else _superuser(host, port)
-    kept = {it: value for it, value in os.environ.items() if not it.startswith("PG") or words.psql and it != "PGUSER"}
-    superuser += ["-d", database_word(database)]
-    _run(superuser, kept, files.read(str(SCRIPT)).decode())
+    superuser = Superuser.of(words.psql, host, port)
+    if words.undo:
+        return undo(superuser, database, host, port)
+    made = superuser.run(database, files.read(str(SCRIPT)).decode(), "-v", "statements=counted")
+    for it in (it for it in made.splitlines() if it.startswith(MADE)):
+        say(it)
     given = {it: os.environ[it] for it in ("PGHOST", "PGPORT") if os.environ.get(it)}
     given |= {"PGUSER": ADVISOR} if os.environ.get("PGUSER") else {}
     os.environ |= {"PGHOST": host, "PGPORT": port, "PGDATABASE": database, "PGUSER": ADVISOR}
     if not _is_known():
         secret = secrets.token_urlsafe(24)
-        _run(superuser, kept, f"{OWN} ALTER ROLE {ADVISOR} PASSWORD '{verifier_of(secret)}';")
-        _keep(host, port, secret)
+        superuser.run(database, f"{OWN} ALTER ROLE {ADVISOR} PASSWORD '{verifier_of(secret)}';")
+        keep(host, port, secret)
     with connected() as server, reading(server):
         return _tell(server, database, given)
-
-
-def _run(superuser: list[str], environment: dict[str, str], text: str) -> None:
-    """Hands a script to psql, of whose standard output what it made is told. Its status 2 says that it didn't connect."""
-    given = [*superuser, "-X", "-q", "-v", "statements=counted", "-v", "ON_ERROR_STOP=1"]
-    try:
-        how = {"stdout": subprocess.PIPE, "stderr": subprocess.PIPE, "env": environment, "errors": "replace"}
-        ran = subprocess.run(given, input=text, text=True, check=False, **how)  # type: ignore[call-overload]
-    except OSError as fault:
-        raise NoInput(f"{given[0]}: {fault.strerror}") from None
-    if ran.returncode == 2 and reason(Exception(ran.stderr)) != UNKNOWN:
-        host, port = environment.get("PGHOST", ""), os.environ.get("PGPORT") or PORT
-        raise NoInput(failed(superuser, environment, port, ran.stderr, host in ("", *LOCAL) or host.startswith("/")))
-    sys.stderr.write(ran.stderr)
-    for it in (it for it in ran.stdout.splitlines() if it.startswith(MADE)):
-        say(it)
-    if ran.returncode:
-        raise NoInput(f"the superuser's script failed: {shlex.join(superuser)} answers with status {ran.returncode}")
-
-
-def _superuser(host: str, port: str) -> list[str]:
-    """How psql is called as the superuser postgres of this machine."""
-    if host not in LOCAL and not host.startswith("/"):
-        raise NoInput("the server is on another machine: --psql 'psql -h HOST -U postgres' names its superuser")
-    return [*run_as("postgres"), "psql", "-p", port, *(["-h", host] if host.startswith("/") else [])]
 
 
 def _is_known() -> bool:
@@ -113,17 +93,6 @@ def verifier_of(secret: str) -> str:
     keys = [hmac.digest(salted, it, "sha256") for it in (b"Client Key", b"Server Key")]
     shown = [base64.b64encode(it).decode() for it in (salt, hashlib.sha256(keys[0]).digest(), keys[1])]
     return f"SCRAM-SHA-256${ROUNDS}:{shown[0]}${shown[1]}:{shown[2]}"
-
-
-def _keep(host: str, port: str, secret: str) -> None:
-    """Puts the password before the other lines of the file of passwords, in the place of the one before."""
-    name = os.environ.get("PGPASSFILE") or os.path.expanduser("~/.pgpass")
-    place = ":".join(it.replace("\\", "\\\\").replace(":", "\\:") for it in (host, port))
-    begin = f"{place}:*:{ADVISOR}:"
-    lines = files.read(name).decode(errors="surrogateescape").splitlines() if os.path.lexists(name) else []
-    text = "\n".join([begin + secret, *(it for it in lines if not it.startswith(begin))]) + "\n"
-    files.write([files.File(name, text.encode(errors="surrogateescape"))])
-    say(f"the password of {ADVISOR} is new, and stands in {files.shown(name)}")
 
 
 def _tell(server: Server, database: str, given: dict[str, str]) -> int:

@@ -1,0 +1,61 @@
+"""psql as a superuser: `sudo -u postgres psql` on this machine, or what `--psql` names."""
+from __future__ import annotations
+
+import os
+import shlex
+import subprocess
+import sys
+from dataclasses import dataclass
+
+from cophy_pg.inputs import NoInput
+from cophy_pg.local import LOCAL, PORT, run_as
+from cophy_pg.no_connection import failed
+from cophy_pg.server import UNKNOWN, database_word, reason
+
+QUIET = ("-X", "-q", "-A", "-t", "-v", "ON_ERROR_STOP=1")
+
+
+@dataclass(frozen=True)
+class Superuser:
+    """How psql is called as a superuser, and its environment."""
+
+    command: list[str]
+    environment: dict[str, str]
+
+    @classmethod
+    def of(cls, psql: str | None, host: str, port: str) -> Superuser:
+        """What `--psql` names, or the superuser postgres of this machine. Of the environment only the former knows a
+        server."""
+        kept = {it: value for it, value in os.environ.items() if not it.startswith("PG") or psql and it != "PGUSER"}
+        if psql:
+            return cls(shlex.split(psql), kept)
+        if host not in ("", *LOCAL) and not host.startswith("/"):
+            raise NoInput("the server is on another machine: --psql 'psql -h HOST -U postgres' names its superuser")
+        return cls([*run_as("postgres"), "psql", "-p", port, *(["-h", host] if host.startswith("/") else [])], kept)
+
+    def shown(self) -> str:
+        """The command, as a person types it."""
+        return shlex.join(self.command)
+
+    def run(self, database: str, text: str, *more: str) -> str:
+        """What a script prints in a database. Why it couldn't connect is told, and what it says itself."""
+        given = [*self._words(database), *more]
+        try:
+            how = {"stdout": subprocess.PIPE, "stderr": subprocess.PIPE, "env": self.environment, "errors": "replace"}
+            ran = subprocess.run(given, input=text, text=True, check=False, **how)  # type: ignore[call-overload]
+        except OSError as fault:
+            raise NoInput(f"{given[0]}: {fault.strerror}") from None
+        # The status 2 says that psql didn't connect.
+        if ran.returncode == 2 and reason(Exception(ran.stderr)) != UNKNOWN:
+            host, port = self.environment.get("PGHOST", ""), os.environ.get("PGPORT") or PORT
+            is_here = host in ("", *LOCAL) or host.startswith("/")
+            raise NoInput(
+                failed([*self.command, "-d", database_word(database)], self.environment, port, ran.stderr, is_here)
+            )
+        sys.stderr.write(ran.stderr)
+        if ran.returncode:
+            raise NoInput(f"the superuser's script failed: {self.shown()} answers with status {ran.returncode}")
+        return str(ran.stdout)
+
+    def _words(self, database: str) -> list[str]:
+        return [*self.command, "-d", database_word(database), *QUIET]
