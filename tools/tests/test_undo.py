@@ -232,6 +232,36 @@ class Attacks(OverPrey):
         self.assertIn("an event trigger runs a function that no superuser owns", ran.stderr)
         self.assertFalse(self.marks())
 
+    def test_a_lock_that_others_hold_is_waited_for_no_longer_than_5_seconds(self) -> None:
+        self.run_as_superuser()
+        words = [str(program("psql")), "-X", "-q"]
+        given = self.server.environment("bait", PGUSER="app")
+        with subprocess.Popen(words, stdin=subprocess.PIPE, stdout=subprocess.PIPE, text=True, env=given) as holder:
+            assert holder.stdin is not None and holder.stdout is not None
+            holder.stdin.write("BEGIN; SELECT count(*) FROM counted.pg_stat_statements;\n\\echo held\n")
+            holder.stdin.flush()
+            while "held\n" not in holder.stdout.readline():
+                pass
+            lines = self.run_as_superuser("--undo").stdout.splitlines()
+            holder.communicate("ROLLBACK;\n", timeout=60)
+        self.assertIn("stays: the extension pg_stat_statements: canceling statement due to lock timeout", lines)
+        self.assertIn("the extension hypopg and its schema hypopg", lines[0])
+
+    def test_a_right_of_another_grantor_keeps_the_role(self) -> None:
+        self.run_as_superuser()
+        as_app(self.server, "CREATE TABLE evil.t (a int)", "bait")
+        self.server.psql("CREATE ROLE other LOGIN", "bait")
+        self.addCleanup(self.server.psql, "DROP ROLE other")
+        self.addCleanup(as_app, self.server, "DROP SCHEMA evil CASCADE", "bait")
+        as_app(
+            self.server,
+            "GRANT SELECT ON evil.t TO other WITH GRANT OPTION; GRANT USAGE ON SCHEMA evil TO other",
+            "bait",
+        )
+        self.server.psql("GRANT SELECT ON evil.t TO cophy_advisor", "bait", PGUSER="other")
+        lines = self.run_as_superuser("--undo").stdout.splitlines()
+        self.assertIn("stays: the role cophy_advisor: table evil.t in this database needs it", lines)
+
     def test_a_schema_of_others_with_the_comment_stays(self) -> None:
         mark = "'made by cophy-pg setup'"
         as_app(self.server, f"CREATE SCHEMA counted; COMMENT ON SCHEMA counted IS {mark}", "bait")
@@ -274,6 +304,20 @@ class Line(InFolder):
                 forget("localhost", "5432")
             self.assertEqual(forget("localhost", "5433"), "")
         self.assertEqual((self.folder / "there").read_text(), "localhost:5432:*:cophy_advisor:a\n")
+
+    @unittest.skipIf(os.geteuid(), "only root may give a file to another user")
+    def test_root_leaves_it_with_its_owner(self) -> None:
+        from cophy_pg.passwords import forget
+
+        name = self.folder / "pass"
+        name.write_text("::*:cophy_advisor:a\nlocalhost:5432:*:cophy_advisor:a\n")
+        name.chmod(0o600)
+        os.chown(name, 12345, 54321)
+        with mock.patch.dict(os.environ, {"PGPASSFILE": str(name)}):
+            self.assertEqual(forget("localhost", "5432"), str(name))
+        found = name.stat()
+        self.assertEqual((found.st_uid, found.st_gid, stat.S_IMODE(found.st_mode)), (12345, 54321, 0o600))
+        self.assertEqual(name.read_text(), "::*:cophy_advisor:a\n")
 
 
 if __name__ == "__main__":

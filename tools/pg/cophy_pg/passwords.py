@@ -3,7 +3,6 @@ from __future__ import annotations
 
 import io
 import os
-import stat
 
 from cophy_text import files
 from cophy_pg.inputs import ADVISOR
@@ -26,11 +25,7 @@ def forget(host: str, port: str) -> str:
     others = [it for it in lines if not it.startswith(begin)]
     if others == lines:
         return ""
-    before = os.stat(name)
-    files.write([files.File(name, b"".join(others))])
-    if os.geteuid() == 0:
-        os.chown(name, before.st_uid, before.st_gid)
-    os.chmod(name, stat.S_IMODE(before.st_mode))
+    files.write([files.File(name, b"".join(others), before=os.stat(name))])
     return name
 
 
