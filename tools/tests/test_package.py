@@ -259,6 +259,9 @@ class Tools(OverPackages):
         self.assertNotIn("Traceback", ran.stderr)
         self.assertEqual(ran.returncode, 1)
         self.assertTrue(got.read_text().startswith(ADVISOR.read_text()), ran.stderr)
+        got.unlink()
+        self.call("setup", "--undo", "shop", "--psql", str(self.copy.folder / "psql"))
+        self.assertEqual(got.read_text(), ADVISOR.with_name("undo_role.sql").read_text())
 
     @unittest.skipIf(LACKS, f"python3-{LACKS} isn't installed")
     def test_units_call_what_is_there(self) -> None:

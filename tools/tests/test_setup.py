@@ -7,7 +7,6 @@ import hashlib
 import hmac
 import json
 import os
-import re
 import shlex
 import socket
 import stat
@@ -16,7 +15,7 @@ import unittest
 from pathlib import Path
 from unittest import mock
 
-from fixtures import ADVISOR, NO_HYPOPG, ROOT, STAND_IN, InFolder, called
+from fixtures import ADVISOR, NO_HYPOPG, STAND_IN, InFolder, called
 from private_server import PrivateServer, program
 
 
@@ -111,28 +110,6 @@ class Setup(InFolder):
         self.assertEqual(ran.returncode, 0, ran.stderr)
         self.assertNotIn("count", (self.folder / "w.sql").read_text())
 
-    def test_what_it_made_is_taken_back_as_the_page_says(self) -> None:
-        other = PrivateServer()
-        self.addCleanup(other.stop)
-        other.psql("CREATE DATABASE odd; CREATE ROLE boss; CREATE ROLE you LOGIN; GRANT boss TO you")
-        other.psql("CREATE TABLE t (a int); ALTER TABLE t OWNER TO boss", "odd")
-        other.psql("GRANT CREATE ON SCHEMA public TO boss", "odd")
-        self.call(other, "odd")
-        other.psql("CREATE INDEX made ON t (a)", "odd", PGUSER="you")
-        page = (ROOT / "docs" / "POSTGRES.md").read_text().partition("\n## To take it all back\n")[2]
-        (block,) = re.findall(r"(?m)^```sql needs-server\n([^`]+)^```$", page)
-        (more,) = re.findall(r"`(DROP EXTENSION pg_stat_statements; .*?)`", page)
-        other.psql(more + block, "odd")
-        # Which `dropuser` does.
-        other.psql("DROP ROLE you")
-        left = "SELECT string_agg(rolname, ' ') FROM pg_roles WHERE rolname !~ '^pg_'"
-        self.assertEqual({*other.value(left).split()}, {"cophy", "boss"})
-        left = "SELECT string_agg(nspname, ' ') FROM pg_namespace WHERE nspname IN ('hypopg', 'counted')"
-        self.assertEqual(other.value(left, "odd"), "")
-        self.assertEqual(
-            other.value("SELECT pg_get_userbyid(relowner) FROM pg_class WHERE relname = 'made'", "odd"), "boss"
-        )
-
     def test_a_server_that_counts_nothing_is_told_with_the_lines_that_mend_it(self) -> None:
         other = PrivateServer(settings=("shared_preload_libraries=auto_explain",))
         self.addCleanup(other.stop)
@@ -220,13 +197,13 @@ class Password(InFolder):
         self.assertEqual(server, hmac.digest(salted, b"Server Key", "sha256"))
 
     def test_it_stands_before_the_other_lines_in_the_place_of_the_last_one(self) -> None:
-        from cophy_pg.setup import _keep
+        from cophy_pg.passwords import keep
 
         name = Path(self.folder) / "pass"
         name.write_text("localhost:5432:*:cophy_advisor:old\n*:*:*:me:mine")
         with mock.patch.dict("os.environ", {"PGPASSFILE": str(name)}):
-            _keep("localhost", "5432", "new")
-            _keep("::1", "5433", "third")
+            keep("localhost", "5432", "new")
+            keep("::1", "5433", "third")
         lines = [r"\:\:1:5433:*:cophy_advisor:third", "localhost:5432:*:cophy_advisor:new", "*:*:*:me:mine"]
         self.assertEqual(name.read_text().splitlines(), lines)
         self.assertEqual(stat.S_IMODE(name.stat().st_mode), 0o600)

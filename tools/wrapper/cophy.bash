@@ -53,7 +53,7 @@ _cophy_pg() {
         effect) options+=" --dsn --timeout --i-trust-the-statements --json" ;;
         edits) options+=" --output --advise" ;;
         report) options+=" --output" ;;
-        setup) options+=" --psql" ;;
+        setup) options+=" --psql --undo" ;;
         snapshot) options+=" --dsn --timeout" ;;
         export) options+=" --dsn --sql --log --report --since --min-calls --table --user --may-cluster --timeout$rewriting --program" ;;
         rewrite) options+=" --report$rewriting --program" ;;

@@ -23,11 +23,13 @@ class NoFile(Exception):
 
 @dataclass
 class File:
-    """A file that is to be written. A private one is for its owner's eyes alone."""
+    """A file that is to be written. A private one is for its owner's eyes alone; one that was there `before` keeps its mode
+    and, where root writes it, its owner."""
 
     name: str
     content: bytes
     is_private: bool = True
+    before: os.stat_result | None = None
 
 
 def read(name: str) -> bytes:
@@ -116,7 +118,10 @@ def _beside(file: File) -> str:
         with os.fdopen(handle, "wb") as opened:
             opened.write(file.content)
             opened.flush()
-            os.fchmod(handle, PRIVATE if file.is_private else 0o666 & ~_mask())
+            if file.before is not None and os.geteuid() == 0:
+                os.fchown(handle, file.before.st_uid, file.before.st_gid)
+            new = PRIVATE if file.is_private else 0o666 & ~_mask()
+            os.fchmod(handle, new if file.before is None else stat.S_IMODE(file.before.st_mode))
             os.fsync(handle)
     except BaseException as fault:
         if beside:

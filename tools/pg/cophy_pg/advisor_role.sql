@@ -85,7 +85,7 @@ GRANT pg_read_all_stats TO cophy_advisor;
     \endif
 \endif
 
--- A schema that nobody else may rename or put functions into.
+-- A schema that nobody else may rename or put functions into. By the comment undo_role.sql knows what was made here.
 DO $$
 BEGIN
     IF EXISTS (SELECT FROM pg_catalog.pg_extension WHERE extname = 'hypopg') THEN
@@ -94,6 +94,7 @@ BEGIN
         RAISE WARNING 'the extension hypopg is not installed here, so that verify will not run';
     ELSE
         CREATE SCHEMA hypopg;
+        COMMENT ON SCHEMA hypopg IS 'made by cophy-pg setup';
         CREATE EXTENSION hypopg SCHEMA hypopg;
     END IF;
 END $$;
@@ -106,6 +107,7 @@ GRANT USAGE ON SCHEMA :"home" TO cophy_advisor;
 \if :makes_statements
     \if :has_counted \else
         CREATE SCHEMA counted;
+        COMMENT ON SCHEMA counted IS 'made by cophy-pg setup';
         GRANT USAGE ON SCHEMA counted TO PUBLIC;
     \endif
     CREATE EXTENSION pg_stat_statements SCHEMA counted;

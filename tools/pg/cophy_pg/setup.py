@@ -1,4 +1,4 @@
-"""`setup`: the role and the extensions that `advise` needs, made once by a superuser; what is missing, and the next command."""
+"""`setup`: the role and the extensions that `advise` needs, made once by a superuser; what is missing, the next command."""
 from __future__ import annotations
 
 import argparse
@@ -19,9 +19,11 @@ from cophy_pg.picks import home_of
 from cophy_pg.export import HIDDEN
 from cophy_pg.inputs import ADVISOR, NoInput, from_server, tell_short
 from cophy_pg.local import port_of
+from cophy_pg.passwords import keep
 from cophy_pg.progress import say
 from cophy_pg.server import OWN, Server, ServerFault, connected, reading
 from cophy_pg.superuser import Superuser
+from cophy_pg.undo import undo
 
 SCRIPT = Path(__file__).resolve().parent / "advisor_role.sql"
 ROUNDS = 4096
@@ -40,7 +42,8 @@ def add_setup(commands: argparse._SubParsersAction[argparse.ArgumentParser]) -> 
         description="Lets a superuser run advisor_role.sql in a database: the role cophy_advisor, which only reads, and the "
         "extensions hypopg and pg_stat_statements, each in a schema of its own. Gives the role a password, which goes to "
         "~/.pgpass, unless one there serves; says what is missing, and prints the next command.",
-        epilog="The status is 0 where advise can be called, and 1 where something is missing.",
+        epilog="The status is 0 where advise can be called, and 1 where something is missing; with --undo 0 where nothing of "
+        "it is left, and 1 where something couldn't be dropped.",
     )
     parser.add_argument("database", metavar="DATABASE", nargs="?", help="the database (PGDATABASE)")
     parser.add_argument(
@@ -48,17 +51,20 @@ def add_setup(commands: argparse._SubParsersAction[argparse.ArgumentParser]) -> 
         metavar="COMMAND",
         help="how psql is called as a superuser (sudo -u postgres psql); elsewhere such as 'psql -h HOST -U postgres'",
     )
+    parser.add_argument("--undo", action="store_true", help="take back what setup made; what was there before stays")
     parser.set_defaults(run=setup)
 
 
 def setup(words: argparse.Namespace) -> int:
-    """Makes what is to be made, and says what is missing."""
+    """Makes what is to be made, and says what is missing; or takes it back."""
     database = words.database or os.environ.get("PGDATABASE")
     if not database:
         raise NoInput("name the database: cophy-pg setup DATABASE")
     host = os.environ.get("PGHOST") or "localhost"
     port = port_of(host)
     superuser = Superuser.of(words.psql, host, port)
+    if words.undo:
+        return undo(superuser, database, host, port)
     made = superuser.run(database, files.read(str(SCRIPT)).decode(), "-v", "statements=counted")
     for it in (it for it in made.splitlines() if it.startswith(MADE)):
         say(it)
@@ -68,7 +74,7 @@ def setup(words: argparse.Namespace) -> int:
     if not _is_known():
         secret = secrets.token_urlsafe(24)
         superuser.run(database, f"{OWN} ALTER ROLE {ADVISOR} PASSWORD '{verifier_of(secret)}';")
-        _keep(host, port, secret)
+        keep(host, port, secret)
     with connected() as server, reading(server):
         return _tell(server, database, given)
 
@@ -87,17 +93,6 @@ def verifier_of(secret: str) -> str:
     keys = [hmac.digest(salted, it, "sha256") for it in (b"Client Key", b"Server Key")]
     shown = [base64.b64encode(it).decode() for it in (salt, hashlib.sha256(keys[0]).digest(), keys[1])]
     return f"SCRAM-SHA-256${ROUNDS}:{shown[0]}${shown[1]}:{shown[2]}"
-
-
-def _keep(host: str, port: str, secret: str) -> None:
-    """Puts the password before the other lines of the file of passwords, in the place of the one before."""
-    name = os.environ.get("PGPASSFILE") or os.path.expanduser("~/.pgpass")
-    place = ":".join(it.replace("\\", "\\\\").replace(":", "\\:") for it in (host, port))
-    begin = f"{place}:*:{ADVISOR}:"
-    lines = files.read(name).decode(errors="surrogateescape").splitlines() if os.path.lexists(name) else []
-    text = "\n".join([begin + secret, *(it for it in lines if not it.startswith(begin))]) + "\n"
-    files.write([files.File(name, text.encode(errors="surrogateescape"))])
-    say(f"the password of {ADVISOR} is new, and stands in {files.shown(name)}")
 
 
 def _tell(server: Server, database: str, given: dict[str, str]) -> int:
