@@ -235,7 +235,9 @@ class Joined(InFolder):
             with self.assertRaisesRegex(NoInput, "did not make the role cophy_maker"), joined(self.superuser, "boss"):
                 self.fail("another is at work")
             self.assertEqual(self.members(), "cophy_maker of other")
-            ran.kill()
+            # A server that is asked to stop waits for it.
+            self.server.psql("SELECT pg_terminate_backend(pid) FROM pg_stat_activity WHERE usename = 'cophy_maker'")
+            ran.wait(LONG)
 
     def test_an_owner_that_isnt_there_is_refused(self) -> None:
         from cophy_pg.inputs import NoInput
