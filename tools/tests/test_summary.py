@@ -99,7 +99,9 @@ class Summary(OverDocument):
         self.assertIn("; most of the gap with all is t(c): so it is", lines[at + 3])
         self.assertEqual(lines[at + 4], "with all, those not recommended too, 5.0 MB stay free")
         line = next_of(self.document, Folder("/a"))[0]
-        self.assertTrue(line.startswith("to make them in about 30 seconds: cophy-pg make /a; or their owner runs: "), line)
+        self.assertTrue(
+            line.startswith("to make them in about 30 seconds: cophy-pg make /a; or their owner runs: "), line
+        )
 
     def test_the_owner_who_is_a_user_here_needs_no_password(self) -> None:
         from cophy_pg.closing import command_of

@@ -129,7 +129,9 @@ class Verdict(OverDocument):
         self.assertTrue(lines[at + 1].startswith("* judged by the server's planner alone: outside our model, "))
         over = "1 more isn't recommended (4.0 MB, with which all are 1.0 MB over the budget; make --all takes it too)"
         self.assertIn(over, lines)
-        self.assertIn("make them (about 33 seconds, reads and writes go on); it asks first, and --undo takes them back:", lines)
+        self.assertIn(
+            "make them (about 33 seconds, reads and writes go on); it asks first, and --undo takes them back:", lines
+        )
         details = lines_of(self.document)
         self.assertTrue(details[0].startswith("5 indexes to make, 21.0 MB of 24.0 MB, and 1 not recommended, 4.0 MB: "))
         at = details.index("5. CREATE INDEX;")
