@@ -286,6 +286,44 @@ class Page(InFolder):
         self.assertEqual([it[2] for it in curve["dots"]], ["0", "1", "", "1"])
         self.assertEqual([it["budget"] for it in curve["rows"]], ["0.0 MB", "0.1 MB", "0.1 MB", "7.0 MB"])
 
+    def test_what_is_after_is_with_what_is_made_by_default(self) -> None:
+        from cophy_pg.page import page_text
+
+        index = "<13>btree_t_lower_a"
+        scan = {"Node Type": "Index Scan", "Index Name": index, "Relation Name": "t", "Alias": "t", "Plan Rows": 5}
+        made = scan | {"Startup Cost": 0.25, "Total Cost": 450.0}
+        given, shown = document("/advice"), plans()
+        pick = given["picks"][0]
+        given["picks"].append(pick | {"place": 2, "columns": ["d"], "caveat": "it saves 0.2 %"})
+        for it in given["statements"][:2]:
+            it["server_cost"]["made"] = it["server_cost"]["after"]
+        given["statements"][0]["server_cost"]["made"] = 450.0
+        shown["statements"][0] |= {"made": made, "made_shown": {index: "t(lower(a))"}}
+        self.assertEqual([*faults(given, SCHEMA, SCHEMA)], [])
+        text = page_text(given, shown, None)
+        # Of 900 a half is left.
+        self.assertIn('900.0 → 450.0 <span class="good">−50.0\N{NO-BREAK SPACE}%</span>', text)
+        self.assertIn("Index Scan using the new index t(lower(a)) on t  (cost=0.25..450.00 rows=5)", text)
+        self.assertNotIn("100.00 rows=1", text)
+        self.assertIn("Open one for its plans. What is after is with the indexes to make alone.</p>", text)
+        with_all = "A call costs 900.0 by our model, then 100.0 with all indexes, those not recommended too."
+        self.assertIn(with_all, text)
+        self.assertNotIn("over functions", text)
+        # Where all picks are made, as they were with all.
+        self.assertIn("then 100.0.</p>", page_text(given | {"picks": [pick]}, plans(), None))
+
+    def test_a_folder_from_before_there_were_plans_with_what_is_made_by_default_is_shown(self) -> None:
+        from cophy_pg.page import page_text
+
+        given = document("/advice")
+        given["picks"].append(given["picks"][0] | {"place": 2, "columns": ["d"], "caveat": "it saves 0.2 %"})
+        text = page_text(given, plans(), None)
+        # Of 900 a ninth is left.
+        self.assertIn('900.0 → 100.0 <span class="good">−88.9\N{NO-BREAK SPACE}%</span>', text)
+        self.assertIn("Index Scan using the new index t(b) on t x  (cost=0.50..100.00 rows=1)", text)
+        self.assertIn("What is after is with all indexes, those not recommended too.</p>", text)
+        self.assertIn("A call costs 900.0 by our model, then 100.0.</p>", text)
+
     def test_without_indexes(self) -> None:
         self.document |= {"picks": [], "left_out": [], "size_pages": 0, "stored_pages": 0, "warnings": [], "lint": []}
         self.write()

@@ -16,6 +16,7 @@ from cophy_text.shown import percent, space
 from cophy_pg import export, folder, inputs, unlimited
 from cophy_pg.advise_words import parser_of
 from cophy_pg.amounts import Share
+from cophy_pg.by_default import differing, plans_by_default
 from cophy_pg.catalogue import read_schema
 from cophy_pg.choice import Choice
 from cophy_pg.closing import ending, made_of
@@ -46,7 +47,7 @@ from cophy_pg.rounds import Rounds
 from cophy_pg.schema import Schema
 from cophy_pg.searches import CUT, Rules, Searches, listed_in, refined_for
 from cophy_pg.selection import ran_once, selection_of
-from cophy_pg.server import Server, connected, reading, version_of
+from cophy_pg.server import Server, ServerFault, connected, reading, version_of
 from cophy_pg.sizes import SIZE, stored_size
 from cophy_pg.snapshots import taken_of
 from cophy_pg.statistics import Found
@@ -160,6 +161,7 @@ class Run:
         with self.steps.step("recommend", "telling what is plainly worth it"):
             asked = {it.number for it in choice.advice.picks if self.rules.asks_for(it)}
             result.recommended = self._recommended(result, rounds, asked)
+        self._ask_by_default(result)
         self._write(result, points)
         return result.document()
 
@@ -222,6 +224,28 @@ class Run:
 
         with connected(self.words.dsn, self.words.timeout) as server:
             return without_caveats(picks, caveats, all_, whole, costs_of)
+
+    def _ask_by_default(self, result: Result) -> None:
+        """Asks for the plans with what the script makes by default, where they may differ from those with all picks. Where
+        it makes nothing, plans with all picks are all that there is to show."""
+        assert result.recommended is not None
+        choice, unadvised = result.choice.advice, result.recommended.why_not
+        advice = replace(choice, picks=[it for it in choice.picks if it.number not in unadvised])
+        made = [pick for _, pick in result.made_hints()]
+        hints = [it.index for it in result.hints if it.index.pick() in made]
+        if not advice.picks and not hints:
+            return
+        found = differing(result.plans, result.judged.verdicts, unadvised, hints)
+        if not found:
+            result.plans.by_default = {}
+            return
+        given = (result.schema, advice, hints, found, self.words.is_trusted, self.steps)
+        try:
+            with self.steps.step("made", "asking for the plans with what is made by default", len(found)):
+                with connected(self.words.dsn, self.words.timeout) as server:
+                    result.plans.by_default = plans_by_default(server, *given)
+        except ServerFault as fault:
+            say(f"the plans with what is made by default aren't known: {fault.shown()}")
 
     def _write(self, result: Result, points: list[Advice]) -> None:
         """Writes what the last steps found, with the points of the curve where there are any."""

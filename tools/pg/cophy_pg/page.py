@@ -11,7 +11,7 @@ from cophy_text import files
 from cophy_text.answers import counted
 from cophy_text.shown import grouped, percent, share, short, space
 from cophy_pg import folder
-from cophy_pg.closing import end_of, is_all_advised, is_hint, pages_of, recommended_of, rows_of
+from cophy_pg.closing import end_of, is_all_advised, is_hint, made_hints, pages_of, recommended_of, rows_of
 from cophy_pg.curves import curve_of
 from cophy_pg.folder import Folder
 from cophy_pg.guesses import doubt_of, time_saved, warning_of
@@ -99,6 +99,8 @@ def page_text(document: dict[str, Any], plans: dict[str, Any], curve: dict[str, 
         pages=pages_of(document),
         alone=ALONE,
         some=not is_all_advised(document),
+        by_default=any("made" in (it["server_cost"] or {}) for it in document["statements"]),
+        has_hints=bool(made_hints(document)),
         picks=[_pick(at, it, document) for at, it in rows_of(document)],
         left_out=[{"index": named(it), "pages": it["pages"], "why": it["why"]} for it in document["left_out"]],
         statements=_statements(document, plans),
@@ -179,14 +181,19 @@ def _statements(document: dict[str, Any], plans: dict[str, Any]) -> list[dict[st
 
 
 def _statement(statement: dict[str, Any], plan: dict[str, Any], names: dict[str, str]) -> dict[str, Any]:
+    """A statement with its plans before and after: where it is known what it is with what is made by default, that."""
     before, after = (plan_text(plan[side], names) if plan[side] else "" for side in ("before", "after"))
+    if "made" in plan:
+        after = plan_text(plan["made"], plan["made_shown"])
     cost = statement["server_cost"]
-    saved = 100 * (cost["before"] - cost["after"]) / cost["before"] if cost and cost["before"] else None
+    now = cost.get("made", cost["after"]) if cost else None
+    saved = 100 * (cost["before"] - now) / cost["before"] if cost and cost["before"] else None
     return {
         **statement,
         "name": name_of(statement),
         "before": before,
         "after": after,
+        "now": now,
         "saved": saved,
         "texts": [{"name": it, "text": CHANGES[it].text if it in CHANGES else ""} for it in statement["changes"]],
     }

@@ -27,12 +27,21 @@ class Plan(NamedTuple):
     taken: frozenset[int]
 
 
+class Shown(NamedTuple):
+    """A plan as the server gives it, and what the names of hypothetical indexes in it stand for."""
+
+    plan: Any
+    names: dict[str, str]
+
+
 @dataclass
 class Plans:
     """Plans by the numbers of their verdicts, and for each pick, by its number, what the statements that take it cost
     without it. `made` and `shown` have the picks by the names of their indexes in plans, and `alone` those that plans read
     without their tables. `walked` has the statements that walk along a pick in the order of a LIMIT, and `doubted` what
-    all their calls are said to save by that, which isn't counted."""
+    all their calls are said to save by that, which isn't counted. `by_default` has the plans with what the script makes unless
+    it is told otherwise, of the statements that were asked about anew for that; the others' are those with all picks. It is
+    nothing where that isn't known."""
 
     before: dict[int, Any] = field(default_factory=dict)
     after: dict[int, Any] = field(default_factory=dict)
@@ -42,16 +51,26 @@ class Plans:
     made: dict[str, int] = field(default_factory=dict)
     walked: dict[int, set[int]] = field(default_factory=dict)
     doubted: dict[int, float] = field(default_factory=dict)
+    by_default: dict[int, Shown] | None = None
 
     def saved(self, pick: int, verdict: Verdict) -> float:
         """What one call saves by a pick, where all others are there."""
         cost = self.without.get(pick, {}).get(verdict.number)
         return cost - float(self.after[verdict.number]["Total Cost"]) if cost is not None else 0.0
 
+    def cost_by_default(self, verdict: Verdict) -> float | None:
+        """What a call costs with what the script makes unless it is told otherwise; nothing where that isn't known."""
+        if self.by_default is None:
+            return None
+        shown = self.by_default.get(verdict.number)
+        return float(shown.plan["Total Cost"]) if shown else verdict.after
+
     def document(self, workload: Workload) -> dict[str, Any]:
-        """The plans of each input of a workload, in their order, with the numbers of its statements."""
+        """The plans of each input of a workload, in their order, with the numbers of its statements; with what is made by
+        default where that was asked about anew."""
+        made = {at: {"made": it.plan, "made_shown": it.names} for at, it in (self.by_default or {}).items()}
         listed = [
-            {"numbers": it.numbers, "before": self.before.get(at), "after": self.after.get(at)}
+            {"numbers": it.numbers, "before": self.before.get(at), "after": self.after.get(at), **made.get(at, {})}
             for at, it in enumerate(workload.records, 1)
         ]
         return {"statements": listed, "shown": self.shown}

@@ -14,7 +14,7 @@ from cophy_pg.ddl import Made, create, taken_names
 from cophy_pg.expression_hints import Hint
 from cophy_pg.guesses import is_counted, is_guessed, saved_of, whole_of
 from cophy_pg.hints import Found, Room, documents_of
-from cophy_pg.outcomes import ORDINARY, Outcome
+from cophy_pg.outcomes import ORDINARY, Outcome, Verdict
 from cophy_pg.plans import Plans
 from cophy_pg.recommended import LITTLE, Recommended, caveat_of, served
 from cophy_pg.rewrite.parse import without_literals
@@ -308,10 +308,17 @@ class Result:
             "changes": [*record.found.changes],
             "skipped": record.found.skipped or None,
             "cost": self._ours(record) if record.numbers else None,
-            "server_cost": _both(verdict.before, verdict.after) if verdict else None,
+            "server_cost": self._by_server(verdict) if verdict else None,
             "not_explained": (verdict.fault or None) if verdict else None,
             "picks": [places[it] for it in verdict.taken if it in places] if verdict else [],
         }
+
+    def _by_server(self, verdict: Verdict) -> dict[str, float] | None:
+        """What a call costs by the server's planner, with what the script makes by default too where that is known."""
+        if verdict.before is None or verdict.after is None:
+            return None
+        made = self.plans.cost_by_default(verdict)
+        return {"before": verdict.before, "after": verdict.after} | ({} if made is None else {"made": made})
 
     def _ours(self, record: Record) -> dict[str, int]:
         """What a call costs by our model, over all statements that it is written as."""
@@ -332,10 +339,6 @@ def _index(pick: Candidate) -> dict[str, Any]:
         "clustered": pick.is_clustered,
         "pages": pick.pages,
     }
-
-
-def _both(before: float | None, after: float | None) -> dict[str, float] | None:
-    return {"before": before, "after": after} if before is not None and after is not None else None
 
 
 def _percent(part: float, whole: float) -> float:

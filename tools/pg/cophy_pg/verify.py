@@ -98,7 +98,7 @@ def judge(
 ) -> tuple[list[Outcome], list[str]]:
     """Explains statements with the picks, and without them where that isn't known, and fills their verdicts."""
     with reading(server, "READ COMMITTED"):
-        explainer, functions = _explainer(server, found, is_trusted)
+        explainer, functions = explainer_of(server, found, is_trusted)
         _explain_without(explainer, found, progress, " without new indexes")
         listed, made = make(server, schema, advice)
         for at, it in enumerate(found, 1):
@@ -111,13 +111,13 @@ def explain_as_it_is(server: Server, found: list[Verdict], is_trusted: bool, pro
     """Fills what statements cost without hypothetical indexes, and so with all that are there, as `judge` does without
     the picks."""
     with reading(server, "READ COMMITTED"):
-        explainer, _ = _explainer(server, found, is_trusted)
+        explainer, _ = explainer_of(server, found, is_trusted)
         # A session behind a pooler may have some of an earlier one.
         home_of(server)
         _explain_without(explainer, found, progress, "")
 
 
-def _explainer(server: Server, found: list[Verdict], is_trusted: bool) -> tuple[Explainer, list[str]]:
+def explainer_of(server: Server, found: list[Verdict], is_trusted: bool) -> tuple[Explainer, list[str]]:
     """What explains statements, and the functions of users that may run then, which are told."""
     tables, every = look_up(server, found, is_trusted)
     functions = functions_of_users(server, every, tables) + replaceable(server)
