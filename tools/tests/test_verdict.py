@@ -144,6 +144,10 @@ class Verdict(OverDocument):
         for it in self.document["picks"]:
             it["owner"] = "boss"
         self.assertIn(" -v without=1,2,3,4,6 ", commands_of(self.document, "x")[0])
+        # Where the server was asked about what is made alone, that is what counts: 1.5 s that cost 900 cost 300 then.
+        self.document["statements"][0]["server_cost"]["made"] = 300.0
+        self.assertTrue(self.verdict()[1].startswith("They save about 62 % of the 1.6 s measured"), self.verdict()[1])
+        del self.document["statements"][0]["server_cost"]["made"]
         # Where there is no pick, it is made alone.
         self.document["picks"], self.document["recommended"]["stored_pages"] = [], 0
         self.assertEqual(self.verdict()[0], "Make this index: 5.0 MB of the budget of 24.0 MB.")

@@ -70,17 +70,27 @@ def pages_of(document: dict[str, Any]) -> int:
     return hints + int(recommended_of(document)["stored_pages"])
 
 
+def now_of(cost: dict[str, float]) -> float:
+    """What the server says that a statement costs with what is made by default: with all picks, where the plan is the same."""
+    return cost.get("made", cost["after"])
+
+
 def time_falls(document: dict[str, Any]) -> float:
-    """How many percent of the measured time the recommended picks and the hints save, if each statement's falls as
-    the server says that its cost does. One whose cost the server doesn't say saves nothing, and what isn't
-    recommended is taken off."""
-    whole, saved = seconds_of(document["statements"]) or 0.0, 0.0
-    for it in document["statements"]:
-        if (cost := it["server_cost"]) and cost["before"]:
-            saved += (it["seconds"] or 0.0) * (cost["before"] - cost["after"]) / cost["before"]
-    others = sum(it["saves"].get("planned") or 0.0 for it in document["picks"] if it.get("caveat"))
+    """How many percent of the measured time what is made by default saves, if each statement's falls as the server says that
+    its cost does. One whose cost the server doesn't say saves nothing. Where it wasn't asked about these alone, what isn't
+    recommended is taken off, and hints are added."""
+    whole = seconds_of(document["statements"])
+    known = [(it["seconds"] or 0.0, cost) for it in document["statements"] if (cost := it["server_cost"])]
+    if not whole:
+        return 0.0
+    saved: float = (
+        100 / whole * sum(time * (1 - now_of(cost) / cost["before"]) for time, cost in known if cost["before"])
+    )
+    if any("made" in cost for _, cost in known):
+        return max(0.0, saved)
+    others = float(sum(it["saves"].get("planned") or 0.0 for it in document["picks"] if it.get("caveat")))
     hints = sum(it["saves"]["planned"] or 0.0 for it in made_hints(document))
-    return max(0.0, 100 * saved / whole - others) + hints if whole else 0.0
+    return max(0.0, saved - others) + float(hints)
 
 
 def is_all_advised(document: dict[str, Any]) -> bool:

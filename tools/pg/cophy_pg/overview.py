@@ -6,7 +6,7 @@ from typing import Any
 from cophy_text.answers import counted
 from cophy_text.shown import SHORT, grouped, in_row, percent, share, short, space
 from cophy_pg.choice import ASKED, UNTAKEN
-from cophy_pg.closing import costs, is_hint, last_of, pages_of, recommended_of, rows_of
+from cophy_pg.closing import costs, is_hint, last_of, now_of, pages_of, recommended_of, rows_of
 from cophy_pg.expression_hints import SAME
 from cophy_pg.guesses import doubt_of, gains, saved_of, seconds_of, time_saved, warning_of
 from cophy_pg.hints import ALONE, hinted, hints_told
@@ -91,7 +91,7 @@ def unhelped(document: dict[str, Any]) -> list[str]:
         return []
     others = (it for it in document["statements"] if not hinted(document) & {*it["numbers"]})
     seen = [it for it in others if it["server_cost"] and it["seconds"] >= max(SLOW * it["calls"], whole / SEEN)]
-    same = [it for it in seen if it["server_cost"]["after"] > SAME * it["server_cost"]["before"]]
+    same = [it for it in seen if now_of(it["server_cost"]) > SAME * it["server_cost"]["before"]]
     time = seconds_of(same) or 0.0
     if time * UNHELPED < whole:
         return []

@@ -11,7 +11,7 @@ from cophy_text import files
 from cophy_text.answers import counted
 from cophy_text.shown import grouped, percent, share, short, space
 from cophy_pg import folder
-from cophy_pg.closing import end_of, is_all_advised, is_hint, made_hints, pages_of, recommended_of, rows_of
+from cophy_pg.closing import end_of, is_all_advised, is_hint, made_hints, now_of, pages_of, recommended_of, rows_of
 from cophy_pg.curves import curve_of
 from cophy_pg.folder import Folder
 from cophy_pg.guesses import doubt_of, time_saved, warning_of
@@ -186,7 +186,7 @@ def _statement(statement: dict[str, Any], plan: dict[str, Any], names: dict[str,
     if "made" in plan:
         after = plan_text(plan["made"], plan["made_shown"])
     cost = statement["server_cost"]
-    now = cost.get("made", cost["after"]) if cost else None
+    now = now_of(cost) if cost else None
     saved = 100 * (cost["before"] - now) / cost["before"] if cost and cost["before"] else None
     return {
         **statement,
