@@ -1,4 +1,4 @@
-"""`make`: the indexes of a folder, made as the owner of their tables, and the role that is a member of it for that time."""
+"""`make`: the indexes of a folder, made as the owner of their tables."""
 from __future__ import annotations
 
 import argparse
@@ -13,9 +13,9 @@ import unittest
 from typing import Any
 from unittest import mock
 
-from fixtures import MISSING, TOOL, InFolder, OverOwn
+from fixtures import MISSING, TOOL, OverOwn
 from patience import LONG, until
-from private_server import PrivateServer, program
+from private_server import program
 
 
 def row(at: int, owner: str | None = "boss", caveat: str | None = None, **more: Any) -> dict[str, Any]:
@@ -151,123 +151,28 @@ class Connected(unittest.TestCase):
             self.assertEqual(self.called("root", host="/run/db"), "sudo -u root psql -X -p 5433 -d 'a b' -h /run/db")
             self.assertEqual(self.called("boss", host="far"), "psql -X -p 5433 -d 'a b' -h far -U boss")
 
+    def test_another_user_gets_no_password_of_ours(self) -> None:
+        from cophy_pg.maker import _connected
+
+        for who, kept in (("you", set()), ("root", {"PGPASSWORD", "PGSSLMODE"})):
+            with mock.patch.dict("os.environ", {"PGPASSWORD": "secret", "PGSSLMODE": "require"}), mock.patch(
+                "getpass.getuser", return_value=who
+            ), _connected(document(row(1), owners=["root"]), "root", words()) as (_, environment):
+                self.assertEqual({it for it in environment if it.startswith("PG")}, kept)
+
+    def test_words_that_cant_be_taken_apart_are_refused(self) -> None:
+        from cophy_pg.inputs import NoInput
+        from cophy_pg.superuser import Superuser
+
+        with self.assertRaisesRegex(NoInput, "No closing quotation"):
+            Superuser.of("psql 'x", "localhost", "5432")
+
     def test_a_database_is_no_connection(self) -> None:
         for name, word in (
             ("host=it's", """ -d 'dbname='"'"'host=it\\'"'"'s'"'"'' """),
             ("postgres://x", """ -d 'dbname='"'"'postgres://x'"'"'' """),
         ):
             self.assertIn(word, self.called("boss", host="far", database=name))
-
-
-@unittest.skipIf(MISSING, MISSING)
-class Joined(InFolder):
-    """The role is a member for as long as that is asked for."""
-
-    def setUp(self) -> None:
-        from cophy_pg.superuser import Superuser
-
-        super().setUp()
-        self.server = PrivateServer()
-        self.addCleanup(self.server.stop)
-        psql = [str(program("psql")), "-h", str(self.server.folder), "-U", "cophy"]
-        self.superuser = Superuser(psql, {"PATH": "/usr/bin:/bin"})
-
-    def roles(self) -> str:
-        return self.server.value("SELECT string_agg(rolname, ' ' ORDER BY 1) FROM pg_roles WHERE oid > 16000")
-
-    def members(self) -> str:
-        """Who is a member of whom, of roles that aren't PostgreSQL's own."""
-        names = "member::regrole::text || ' of ' || roleid::regrole::text"
-        return self.server.value(f"SELECT string_agg({names}, ' ') FROM pg_auth_members WHERE roleid > 16000")
-
-    def test_it_is_gone_behind_it_whatever_the_owner_is_called(self) -> None:
-        from cophy_pg.joined import joined
-
-        for owner in (
-            "boss",
-            "b\"o's\\s $(x)",
-            "b`x`)\\n%s :x \\c",
-            'c\\0042 FROM d;ALTER ROLE "boss" SUPERUSER;--',
-            "a{b}\nc",
-        ):
-            quoted = '"' + owner.replace('"', '""') + '"'
-            self.server.psql(f"CREATE ROLE {quoted}")
-            before = self.roles()
-            with joined(self.superuser, owner):
-                count = "SELECT count(*) FROM pg_auth_members WHERE roleid = '{}'::regrole"
-                self.assertEqual(self.server.value(count.format(quoted.replace("'", "''"))), "1", owner)
-                until = "SELECT rolvaliduntil < now() + interval '1 minute' AND rolconnlimit = 1 FROM pg_roles"
-                self.assertEqual(self.server.value(f"{until} WHERE rolname = 'cophy_maker'"), "t")
-            self.assertEqual((self.roles(), self.members()), (before, ""))
-        self.assertEqual(self.server.value("SELECT rolsuper FROM pg_roles WHERE rolname = 'boss'"), "f")
-
-    def test_a_fault_and_a_signal_leave_nothing(self) -> None:
-        from cophy_pg.joined import joined
-        from cophy_pg.main import Ended
-
-        self.server.psql("CREATE ROLE boss")
-        with self.assertRaises(Ended), joined(self.superuser, "boss"):
-            raise Ended(signal.SIGINT)
-        self.assertEqual(self.roles(), "boss")
-        with self.assertRaises(Ended), joined(self.superuser, "boss"):
-            # Ctrl-C ends the session of the superuser too.
-            self.server.psql(
-                "SELECT pg_terminate_backend(pid) FROM pg_stat_activity WHERE application_name = 'psql' AND "
-                "pid <> pg_backend_pid()"
-            )
-            raise Ended(signal.SIGINT)
-        self.assertEqual(self.roles(), "boss")
-
-    def test_one_that_was_left_is_made_anew_and_one_that_is_at_work_stays(self) -> None:
-        from cophy_pg.inputs import NoInput
-        from cophy_pg.joined import joined
-
-        self.server.psql("CREATE ROLE boss; CREATE ROLE other; CREATE ROLE cophy_maker LOGIN IN ROLE other")
-        with joined(self.superuser, "boss"):
-            self.assertEqual(self.members(), "cophy_maker of boss")
-        self.server.psql("CREATE ROLE cophy_maker LOGIN IN ROLE other")
-        sleeping = [str(program("psql")), "-X", "-c", "SELECT pg_sleep(600)"]
-        with subprocess.Popen(
-            sleeping, env=self.server.environment(PGUSER="cophy_maker"), stdout=subprocess.DEVNULL
-        ) as ran:
-            asked = "SELECT count(*) FROM pg_stat_activity WHERE usename = 'cophy_maker'"
-            until(lambda: self.server.value(asked) == "1", "the session of another call is there")
-            with self.assertRaisesRegex(NoInput, "did not make the role cophy_maker"), joined(self.superuser, "boss"):
-                self.fail("another is at work")
-            self.assertEqual(self.members(), "cophy_maker of other")
-            # A server that is asked to stop waits for it.
-            self.server.psql("SELECT pg_terminate_backend(pid) FROM pg_stat_activity WHERE usename = 'cophy_maker'")
-            ran.wait(LONG)
-
-    def test_an_owner_that_isnt_there_is_refused(self) -> None:
-        from cophy_pg.inputs import NoInput
-        from cophy_pg.joined import joined
-
-        with self.assertRaises(NoInput), joined(self.superuser, "stranger"):
-            self.fail("there is none")
-        self.assertEqual(self.roles(), "")
-
-    def test_what_the_owner_planted_keeps_it_without_any_right_and_that_is_told(self) -> None:
-        from cophy_pg.joined import joined
-
-        self.server.psql("CREATE ROLE boss; GRANT ALL ON SCHEMA public TO boss")
-        with mock.patch("cophy_pg.joined.say") as said, joined(self.superuser, "boss"):
-            self.server.psql("CREATE TABLE public.its_own ()", PGUSER="cophy_maker")
-        self.assertIn("cophy_maker is left as a role", said.call_args[0][0])
-        self.assertEqual(
-            (self.members(), self.server.value("SELECT count(*) FROM pg_roles WHERE rolcanlogin AND oid > 16000")),
-            ("", "0"),
-        )
-
-    def test_a_password_that_planted_code_gives_it_serves_nobody_after_a_minute(self) -> None:
-        from cophy_pg.joined import joined
-
-        self.server.psql("CREATE ROLE boss")
-        with joined(self.superuser, "boss"):
-            self.server.psql("ALTER ROLE cophy_maker PASSWORD 'known'", PGUSER="cophy_maker")
-            longer = "ALTER ROLE cophy_maker VALID UNTIL 'infinity'"
-            self.assertNotEqual(self.server.psql(longer, check=False, PGUSER="cophy_maker").returncode, 0)
-        self.assertEqual(self.roles(), "boss")
 
 
 @unittest.skipIf(MISSING, MISSING)
@@ -358,6 +263,42 @@ CREATE ROLE made_boss; ALTER TABLE t OWNER TO made_boss; GRANT ALL ON SCHEMA pub
         (self.folder / "indexes.sql").write_text(f"-- looked at\n{text}")
         self.make("--yes")
         self.assertEqual(self.there(), "t_a_idx t_b_idx")
+
+    def test_what_is_shown_is_what_is_run(self) -> None:
+        found = json.loads((self.folder / "advice.json").read_text())
+        found["picks"].reverse()
+        (self.folder / "advice.json").write_text(json.dumps(found))
+        for more in ((), ("--undo",), ("--only", "2")):
+            self.assertIn("indexes.sql isn't of this advice, where ", self.make("--yes", *more, status=1).stderr)
+        self.assertEqual(self.there(), "")
+
+    def test_what_others_may_change_isnt_run(self) -> None:
+        for it in (self.folder, self.folder / "indexes.sql"):
+            mode = it.stat().st_mode
+            it.chmod(mode | 0o020)
+            self.assertIn("belongs to others, or others may write to it", self.make("--yes", status=1).stderr)
+            it.chmod(mode)
+            if os.geteuid() == 0:
+                os.chown(it, 65534, -1)
+                self.assertIn("belongs to others, or others may write to it", self.make("--yes", status=1).stderr)
+                os.chown(it, 0, -1)
+        self.assertEqual(self.there(), "")
+
+    def test_a_fault_has_the_status_1(self) -> None:
+        self.server.psql("ALTER TABLE t OWNER TO cophy", self.database)
+        self.addCleanup(self.server.psql, "ALTER TABLE t OWNER TO made_boss", self.database)
+        self.assertIn("only the owner of the tables may make indexes", self.make("--yes", status=1).stderr)
+
+    def test_streams_that_are_closed_change_nothing(self) -> None:
+        path = f"{os.path.dirname(str(program('psql')))}:{os.environ['PATH']}"
+        called = shlex.join([str(TOOL), "make", str(self.folder), "--psql", self.psql])
+        for more, wanted in ((" --yes >&-", "t_a_idx t_b_idx"), (" --undo --yes <&- >&- 2>&-", "")):
+            ran = subprocess.run(called + more, shell=True, env={**os.environ, "PATH": path}, timeout=LONG, check=False)
+            self.assertEqual((ran.returncode, self.there()), (0, wanted))
+            self.server.release(self.database)
+        asked = subprocess.run(called + " <&-", shell=True, capture_output=True, text=True, timeout=LONG, check=False)
+        self.assertEqual((asked.returncode, self.there()), (1, ""))
+        self.assertIn("nobody is there to be asked", asked.stderr)
 
     def test_where_nothing_is_recommended_nothing_is_made(self) -> None:
         found = json.loads((self.folder / "advice.json").read_text())

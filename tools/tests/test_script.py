@@ -276,6 +276,28 @@ class Script(OverOwn):
         self.assertEqual(self.names(), ["plain_b_idx"])
         self.server.psql("DROP INDEX plain_b_idx", "making")
 
+    def test_a_script_in_which_more_than_a_comment_was_changed_is_known(self) -> None:
+        from cophy_pg.script import is_unchanged
+
+        text = self.script(("plain(a)", "parted(kind, day)"))
+        self.assertTrue(is_unchanged(text))
+        self.assertTrue(is_unchanged(text.replace("\n-- 1. ", "\n-- looked at\n-- 1. ")))
+        # No literal and no name goes on over a line, so that no line of comment is within one.
+        for line in (it for it in text.split("\n") if not it.startswith("--")):
+            bare = line.partition(" -- ")[0]
+            self.assertEqual([bare.count(it) % 2 for it in "'\""], [0, 0], line)
+        begun = "DO 'BEGIN IF current_setting"
+        self.assertIn(begun, text)
+        for old, new in (
+            (begun, begun.replace(" IF", "\n--'; \\! touch /tmp/x\nIF")),
+            (begun, begun.replace(" IF", "\x0b-- \x0bIF")),
+            ("\\set ON_ERROR_STOP on\n", "\\set ON_ERROR_STOP\non\n"),
+            ("\\set QUIET on\n", "\\set QUIET on"),
+            ("\n-- 1. ", "\n-- \0\n-- 1. "),
+        ):
+            self.assertIn(old, text)
+            self.assertFalse(is_unchanged(text.replace(old, new, 1)), new)
+
     def test_what_is_not_recommended_is_made_where_that_is_asked_for(self) -> None:
         text = self.script(("plain(a)", "plain(b)", "parted(kind, day)"), "--unadvised", "2,3")
         self.assertIn("-- 2. plain(b): not recommended\n", text)

@@ -8,6 +8,7 @@ import stat
 from collections.abc import Iterator
 from contextlib import contextmanager, suppress
 from datetime import datetime
+from typing import BinaryIO
 
 from cophy_text import files
 from cophy_text.files import File, NoFile, shown
@@ -95,6 +96,18 @@ class Folder:
             told += f"; what its last search advised, which the server didn't judge: cophy-pg {words}"
         raise NoFile(told)
 
+    @contextmanager
+    def opened(self, name: str) -> Iterator[BinaryIO]:
+        """A file in it that is to be run, and so has to be ours, where nobody else may write to it or put another there."""
+        _check(self.name)
+        try:
+            file = open(self.path(name), "rb")
+        except OSError as fault:
+            raise NoFile(f"{shown(self.path(name))}: {fault.strerror}") from None
+        with file:
+            _check_own(self.path(name), os.fstat(file.fileno()))
+            yield file
+
     def has(self, name: str) -> bool:
         """Whether it has such a file."""
         return os.path.isfile(self.path(name))
@@ -121,5 +134,9 @@ def _check(name: str) -> None:
         raise NoFile(f"{shown(name)} is a symbolic link, and nothing is written through one: name the folder itself")
     if not stat.S_ISDIR(found.st_mode):
         raise NoFile(f"{shown(name)} is no folder")
+    _check_own(name, found)
+
+
+def _check_own(name: str, found: os.stat_result) -> None:
     if found.st_uid != os.geteuid() or found.st_mode & 0o022:
         raise NoFile(f"{shown(name)} belongs to others, or others may write to it: name another folder")

@@ -68,6 +68,7 @@ def main() -> int:
         add_rules,
     ):
         add(commands)
+    _fill_streams()
     for stream in (sys.stdout, sys.stderr):
         if isinstance(stream, io.TextIOWrapper):
             stream.reconfigure(errors="backslashreplace")
@@ -88,6 +89,16 @@ def main() -> int:
         return 1
     except Ended as ended:
         return 128 + int(ended.args[0])
+
+
+def _fill_streams() -> None:
+    """Lets a standard stream that is closed go nowhere, so that no connection gets its number, here or in a program that is
+    called, and what is printed goes there."""
+    for number, name in enumerate(("stdin", "stdout", "stderr")):
+        if getattr(sys, name) is None:
+            os.dup2(os.open(os.devnull, os.O_RDWR), number)
+            os.set_inheritable(number, True)
+            setattr(sys, name, os.fdopen(number, "w" if number else "r", closefd=False))
 
 
 def _begin(words: argparse.Namespace) -> int:

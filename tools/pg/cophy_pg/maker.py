@@ -3,13 +3,14 @@ from __future__ import annotations
 
 import argparse
 import os
+import re
 import shlex
 import signal
 import subprocess
 import sys
 from collections.abc import Iterator
 from contextlib import contextmanager, suppress
-from typing import Any
+from typing import Any, BinaryIO
 
 from cophy_text import files
 from cophy_text.shown import printable, space
@@ -78,21 +79,30 @@ def make(words: argparse.Namespace) -> int:
         print("No index is recommended: --all makes the others." if rows_of(document) else "There is no index to make.")
         return NOTHING
     owners = _owners(document, rows)
-    if not is_unchanged(kept.read(folder.DDL).decode(errors="replace")):
-        text = (
-            f"{files.shown(kept.path(folder.DDL))} isn't as advise wrote it: let the owner of the tables run it by psql"
-        )
-        raise NoInput(text)
-    print("\n".join(_told(document, rows, owners, words)), flush=True)
-    if not words.is_sure and not _is_agreed():
-        print("Nothing was changed.")
-        return 1
-    for owner in owners:
-        own = [at for at, it in rows if _owner(document, it) == owner]
-        if status := _run(document, kept, owner, _variables(document, own, words), words):
-            return status
+    with kept.opened(folder.DDL) as script:
+        _check(kept.path(folder.DDL), script.read().decode(errors="replace"), rows)
+        print("\n".join(_told(document, rows, owners, words)), flush=True)
+        if not words.is_sure and not _is_agreed():
+            print("Nothing was changed.")
+            return 1
+        for owner in owners:
+            own = [at for at, it in rows if _owner(document, it) == owner]
+            script.seek(0)
+            if not _is_done(document, script, owner, _variables(document, own, words), words):
+                return 1
     print(_end(document, kept, words.undo))
     return 0
+
+
+def _check(name: str, text: str, rows: list[Row]) -> None:
+    """Refuses a script that isn't as it was written, or in which a number is something else than in the advice."""
+    if not is_unchanged(text):
+        raise NoInput(f"{files.shown(name)} isn't as advise wrote it: let the owner of the tables run it by psql")
+    for at, it in rows:
+        if not re.search(rf"^-- {at}\. {re.escape(told_as(it))}(: |$)", text, re.MULTILINE):
+            raise NoInput(
+                f"{files.shown(name)} isn't of this advice, where {at} is {printable(told_as(it))}: call advise again"
+            )
 
 
 def _chosen(document: dict[str, Any], words: argparse.Namespace) -> list[Row]:
@@ -169,15 +179,16 @@ def _is_agreed() -> bool:
     return False
 
 
-def _run(document: dict[str, Any], kept: Folder, owner: str, variables: list[str], words: argparse.Namespace) -> int:
-    """The status of psql over the script. That it didn't connect is told with what a person can do."""
-    script = kept.path(folder.DDL)
-    with _connected(document, owner, words) as (psql, environment), open(script, "rb") as text:
-        status = _wait([*psql, *variables], environment, text.fileno())
+def _is_done(
+    document: dict[str, Any], script: BinaryIO, owner: str, variables: list[str], words: argparse.Namespace
+) -> bool:
+    """Whether psql has done all of the script. That it didn't connect is told with what a person can do."""
+    with _connected(document, owner, words) as (psql, environment):
+        status = _wait([*psql, *variables], environment, script.fileno())
     if status == 2:
-        by_hand = [it for it in commands_of(document, files.shown(script)) if owner in it] or [""]
+        by_hand = [it for it in commands_of(document, files.shown(script.name)) if owner in it] or [""]
         say(f"psql could not connect, or lost the connection; with the password of {owner!a}: {by_hand[0]}")
-    return status
+    return status == 0
 
 
 @contextmanager
@@ -193,7 +204,10 @@ def _connected(
             at = ["-h", host or "localhost", "-U", MAKER, "-v", "joined=1"]
             yield [*psql, *at], environment | {"PGPASSWORD": secret}
     elif is_here(document) and is_user(owner) and not words.is_owner:
-        yield [*run_as(owner), *psql, *(["-h", host] if host.startswith("/") else [])], environment
+        before = run_as(owner)
+        # Passwords of ours are nothing for another user, who could read them in the environment.
+        kept = {it: value for it, value in environment.items() if not (before and it.startswith("PG"))}
+        yield [*before, *psql, *(["-h", host] if host.startswith("/") else [])], kept
     else:
         yield [*psql, *(["-h", host] if host else []), "-U", owner], environment
 

@@ -36,14 +36,18 @@ def script_text(
 
 
 def is_unchanged(text: str) -> bool:
-    """Whether a script is as it was written, but for its comments."""
+    """Whether a script is as it was written, but for its lines of comment. psql reads a NUL as the end of a line that the
+    next one goes on."""
+    if "\0" in text:
+        return False
     found = re.search(r"'(cophy-pg, script [0-9a-f]{12})'", text)
     return found is not None and found[1] == _mark_of(text.replace(found[0], "'MARK'", 1))
 
 
 def _mark_of(text: str) -> str:
-    """What marks the indexes of a script."""
-    marked = "".join(it for it in text.splitlines() if not it.startswith("--"))
+    """What marks the indexes of a script: all of its lines but those of comment. As no literal goes on over a line, none of
+    these can stand within one, and end it."""
+    marked = "\n".join(it for it in text.split("\n") if not it.startswith("--"))
     return f"cophy-pg, script {hashlib.sha256(marked.encode()).hexdigest()[:12]}"
 
 

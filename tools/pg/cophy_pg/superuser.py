@@ -2,13 +2,16 @@
 from __future__ import annotations
 
 import os
+import secrets
 import shlex
+import signal
 import subprocess
 import sys
 from collections.abc import Iterator
 from contextlib import contextmanager, suppress
 from dataclasses import dataclass
 
+from cophy_text.files import ENDS
 from cophy_pg.inputs import NoInput
 from cophy_pg.local import LOCAL, PORT, run_as
 from cophy_pg.no_connection import failed
@@ -30,7 +33,10 @@ class Superuser:
         server."""
         kept = {it: value for it, value in os.environ.items() if not it.startswith("PG") or psql and it != "PGUSER"}
         if psql:
-            return cls(shlex.split(psql), kept)
+            try:
+                return cls(shlex.split(psql), kept)
+            except ValueError as fault:
+                raise NoInput(f"--psql {psql!a}: {fault}") from None
         if host not in ("", *LOCAL) and not host.startswith("/"):
             raise NoInput("the server is on another machine: --psql 'psql -h HOST -U postgres' names its superuser")
         return cls([*run_as("postgres"), "psql", "-p", port, *(["-h", host] if host.startswith("/") else [])], kept)
@@ -63,6 +69,8 @@ class Superuser:
     def session(self, database: str) -> Iterator[Session]:
         """A session that takes one script after the other, so that a password of sudo is asked for once."""
         how = {"stdin": subprocess.PIPE, "stdout": subprocess.PIPE, "env": self.environment, "errors": "replace"}
+        # One that is begun while signals have to wait can be broken off nevertheless.
+        how["preexec_fn"] = lambda: signal.pthread_sigmask(signal.SIG_UNBLOCK, ENDS)
         try:
             process = subprocess.Popen(self._words(database), text=True, cwd="/", **how)  # type: ignore[call-overload]
         except OSError as fault:
@@ -86,10 +94,12 @@ class Session:
     process: subprocess.Popen[str]
 
     def run(self, text: str) -> bool:
-        """Whether all of a script was done; psql ends at a fault, and says what it was."""
+        """Whether all of a script was done; psql ends at a fault, and says what it was. What an earlier one still says, that
+        was broken off, is none of its."""
         assert self.process.stdin is not None and self.process.stdout is not None
+        end = f"done {secrets.token_hex(8)}\n"
         with suppress(BrokenPipeError):
-            self.process.stdin.write(f"{text}\n\\echo done\n")
+            self.process.stdin.write(f"{text}\n\\echo {end}")
             self.process.stdin.flush()
-            return any(line == "done\n" for line in self.process.stdout)
+            return any(line == end for line in self.process.stdout)
         return False
