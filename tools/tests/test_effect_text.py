@@ -49,7 +49,7 @@ class Text(unittest.TestCase):
         self.assertEqual(lines[0], "All 2 indexes are there, 1 of them in use, not used yet: 1.")
         self.assertEqual(lines[1], "Since all indexes stood these 2 statements took 0.40 ms a call, 3.1 before.")
         saved = "By the server's planner the statements cost 90.0 % less; the advice said 91.0 %."
-        self.assertEqual(lines[2:4], ["All 9 calls took 0.0036 s, at the times before 0.0283.", saved])
+        self.assertEqual(lines[2:4], ["All 9 calls took 0.0036 s, at the times before 0.0283: 87 % less.", saved])
         self.assertRegex(lines[6], r"^ 1\. +0  t1\(a+\.\.\.$")
         self.assertEqual(lines[7], " 2.             1  t2(aaa)")
         self.assertEqual(lines[10], f"{'3,000.0':>9} {'40.0':>9} {'9':>11}        {'S' * 60}")
@@ -76,8 +76,8 @@ class Text(unittest.TestCase):
         rows = self.rows(found)
         self.assertEqual(len(rows), 11)
         self.assertEqual([it.split()[1] for it in rows[6:10]], ["280.0", "3,600.0", "3,560.0", "3,520.0"])
-        # Of the 90 five are near to what they were.
-        self.assertEqual(rows[-1], "and 65 more")
+        # Ten of the 90 have rows.
+        self.assertEqual(rows[-1], "and 80 more")
 
     def test_those_that_gained_or_lost_the_most_in_all_are_the_first_and_noise_isnt_shown(self) -> None:
         table = [(5000, 0.81, 0.88), (90, 150.0, 0.04), (3, 150.0, 0.04), (80, 151.0, 0.05), (70, 0.04, 150.0)]
@@ -85,8 +85,9 @@ class Text(unittest.TestCase):
         found = self.found(1, len(table))
         for it, (calls, before, since) in zip(found["counted"]["statements"], table, strict=True):
             it |= {"calls": calls, "before": before, "since": since, "slower": since > 1.5 * before}
-        numbers = [it.split()[2] for it in self.rows(found)]
-        self.assertEqual(numbers, ["900,000", "90", "80", "70", "3", "10"])
+        rows = self.rows(found)
+        self.assertEqual([it.split()[2] for it in rows[:-1]], ["900,000", "90", "80", "70", "3", "10"])
+        self.assertEqual(rows[-1], "and 2 more")
 
     def test_what_each_index_was_made_for_has_the_first_rows(self) -> None:
         found = self.found(3, 20)
@@ -96,7 +97,11 @@ class Text(unittest.TestCase):
         rows = self.rows(found)
         self.assertEqual(rows[0], "      2.0       2.0           9   1,3  SELECT 1")
         self.assertTrue(rows[1].startswith("  3,000.0      40.0           9        SSS"), rows[1])
-        self.assertEqual(rows[-1], "not called since: those of 2")
+        self.assertEqual(rows[-2:], ["not called since: those of 2", "no faster with them: the statements of 3"])
+        # A tenth less is faster, and few calls say nothing.
+        for calls, since, is_told in ((9, 1.81, True), (9, 1.79, False), (4, 2.0, False)):
+            last |= {"calls": calls, "since": since}
+            self.assertEqual(any(it.startswith("no faster") for it in self.rows(found)), is_told, (calls, since))
 
     def busy(self, others: dict[str, Any] | None = None) -> list[str]:
         """What is printed of 7 indexes, two of which weren't made, and 7 statements that they help."""
@@ -117,7 +122,7 @@ class Text(unittest.TestCase):
         planner = "By the server's planner the statements would take 19 % less of the time measured for queries; "
         planner += "the advice said 23 % with all."
         begin = "Since the advice statements without new indexes took 29 % of their time before: "
-        before = "Calls from before the indexes stood may be in it, until some come after the first call of effect."
+        before = "Calls from before they were made may be in it; a later call of effect leaves those out."
         there = "5 of 7 indexes are there, 5 of them in use."
         against = "Against them these 7 statements took 46 % of theirs, all 23,744 calls 80 %, writes 79 %."
         found = self.busy({"ratio": 0.29, "load": "busier before"})
@@ -133,7 +138,7 @@ class Text(unittest.TestCase):
         self.assertEqual(self.busy()[1], took + ".")
         found = self.busy({"ratio": 0.97, "load": "alike"})
         self.assertEqual(found[1], took + "; others about the same.")
-        every = "All 23,744 calls took 44.8 s, at the times before 194.2; writes 0.39 ms a call, 1.7 before."
+        every = "All 23,744 calls took 44.8 s, at the times before 194.2: 77 % less; writes 0.39 ms a call, 1.7 before, 0.917 s less in all."
         self.assertEqual(found[2], every)
         self.assertTrue(found[4].startswith("By the server's planner "), found)
 
@@ -177,14 +182,14 @@ class Text(unittest.TestCase):
         every = {"calls": 9000, "before": 5.0, "since": 1.25}
         more = {"all": every, "writes": {"calls": 40, "before": 0.1, "since": 0.125}}
         lines = lines_of(self.found(2, 2, counted=self.found(2, 2)["counted"] | more))
-        told = "All 9,000 calls took 11.2 s, at the times before 45.0; writes 0.12 ms a call, 0.10 before."
+        told = "All 9,000 calls took 11.2 s, at the times before 45.0: 75 % less; writes 0.12 ms a call, 0.10 before, 0.001 s more in all."
         self.assertEqual(lines[2], told)
 
     def test_calls_from_before_the_indexes_stood_are_told(self) -> None:
         counted = self.found(2, 1)["counted"] | {"begin": "advice"}
         lines = lines_of(self.found(2, 1, counted=counted))
         self.assertTrue(lines[1].startswith("Since the advice this statement took "))
-        later = "Calls from before the indexes stood may be in it, until some come after the first call of effect."
+        later = "Calls from before they were made may be in it; a later call of effect leaves those out."
         self.assertEqual(lines[3], later)
         lines = lines_of(self.found(2, 1, counted=counted, make=["psql -X"]))
         self.assertEqual(lines[-2:], ["to make the others:", "psql -X"])

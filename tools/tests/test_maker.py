@@ -93,7 +93,7 @@ class Told(unittest.TestCase):
                 "  1. CREATE INDEX i1;",
                 "  2. CREATE INDEX ?[2J;",
                 "  2. ANALYZE t;",
-                "2.0 MB, about 4 seconds, reads and writes go on; database 'a b', as cophy_maker, which "
+                "2.0 MB, about 4 seconds, reads and writes go on; database 'a b' as cophy_maker, which "
                 "'sudo -u postgres psql' makes a member of their owner boss, and then drops.",
             ],
         )
@@ -102,7 +102,7 @@ class Told(unittest.TestCase):
             [
                 "  1. t(c1)",
                 "  2. t(c2)",
-                "Of these what was made; database 'a b', as cophy_maker, which 'sudo -u postgres psql' makes a member of "
+                "Of these what was made; database 'a b' as cophy_maker, which 'sudo -u postgres psql' makes a member of "
                 "their owner boss, and then drops; as their owner root.",
             ],
         )
@@ -222,7 +222,8 @@ CREATE ROLE made_boss; ALTER TABLE t OWNER TO made_boss; GRANT ALL ON SCHEMA pub
         owner = "SELECT DISTINCT relowner::regrole FROM pg_class WHERE relname LIKE 't\\__\\_idx'"
         self.assertEqual(self.server.value(owner, self.database), "made_boss")
         lines = ran.stdout.splitlines()
-        self.assertEqual(lines[:2], ["  1. CREATE INDEX ON t(a);", "  2. CREATE INDEX ON t(b);"])
+        begin = [f"{self.folder}:", "  1. CREATE INDEX ON t(a);", "  2. CREATE INDEX ON t(b);"]
+        self.assertEqual(lines[:3], begin)
         end = [
             f"whether it helped: cophy-pg effect {self.folder}",
             f"to take them back: cophy-pg make {self.folder} --undo",

@@ -39,7 +39,7 @@ class Verdict(OverDocument):
         self.document["asked_pages"] = 128 * 2048
         # Of 9000 thousand, 7200 are saved, and 7204 at the most; a bound isn't rounded down.
         self.document["cost"]["bound"] = 1796000
-        others = "By our model they save 80.0 % of the cost, no others within the budget over 80.1 % (proved)."
+        others = "By our model they save 80.0 % of the cost, no others of 2,048.0 MB over 80.1 % (proved)."
         self.assertEqual(self.verdict()[2], others)
         self.document["recommended"]["picks"], self.document["picks"] = 1, self.document["picks"][:1]
         self.assertEqual(self.verdict()[0], "Make this index: 20.0 MB of the budget of 2,048.0 MB.")
@@ -211,7 +211,7 @@ class Verdict(OverDocument):
         self.assertEqual(lines[0], "Make these 3 indexes: 10.0 MB of the budget of 2,048.0 MB.")
         self.assertTrue(lines[1].startswith("They save about 24 % of the 3.0 s measured for queries, if"), lines[1])
         # They cost 2,700 of 9,000 by our model, and no others less than 1,800.
-        bound = "By our model they save 70.0 % of the cost, no others within the budget over 80.0 % (proved)."
+        bound = "By our model they save 70.0 % of the cost, no others of 2,048.0 MB over 80.0 % (proved)."
         self.assertEqual(lines[2], bound)
         at = lines.index("2 more aren't recommended (10.0 MB; make --all takes them too)")
         rows = [(it[:3], it.split()[4][:2]) for it in lines[at - 4 : at - 1]]

@@ -50,6 +50,13 @@ class Writes(unittest.TestCase):
         rare = found[2] | {"not_hot": ["a"], "path": "s.w"}
         told_first = told(sorted([*found[:2], rare], key=lambda it: not it["not_hot"]))[0]
         self.assertIn("writes: UPDATE of s.w has 1 index more to keep (2 to 3; UPDATEs of a can't", told_first)
+        # With the numbers of the indexes that this is for.
+        made = [
+            (3, {"table": "w", "columns": ["b", "a"]}),
+            (4, {"table": "w", "columns": ["b"]}),
+            (5, {"table": "t", "columns": ["a"]}),
+        ]
+        self.assertIn("; UPDATEs of a can't be HOT any more for 3)", told([rare], made)[0])
         self.assertEqual(told(found[2:]), ["writes: UPDATE of w has 1 index more to keep (2 to 3)"])
         self.assertEqual(told(writes_of(picks[2:3], TEXTS, CALLS, {})), [])
         often = writes_of(picks[:1], TEXTS, CALLS, {"t": (4, set())})

@@ -10,9 +10,9 @@ from cophy_pg.standing import THERE
 MOST_LINES, MOST_INDEXES, MOST_STATEMENTS, MOST_SLOWER, LEAST = 20, 12, 10, 3, 4
 """About so many lines are printed; all indexes where they are so many, at most so many statements, of these so many that got
 slower; and at least so many rows of statements, and of more indexes."""
-CHANGED, FELT, LITTLE = 0.1, 0.1, 0.01
+CHANGED, FELT, LITTLE, OFTEN = 0.1, 0.1, 0.01, 5
 """A statement is shown whose call took such a part more or less, by so many milliseconds or such a part of what all
-changed."""
+changed; one that was called so often is no faster that took such a part less."""
 
 
 def lines_of(found: dict[str, Any]) -> list[str]:
@@ -25,8 +25,12 @@ def lines_of(found: dict[str, Any]) -> list[str]:
     rows = min(len(indexes), max(least, room - min(len(statements), MOST_STATEMENTS)))
     others = min(MOST_STATEMENTS, max(LEAST, room - rows))
     places = {it["place"] for it in _shown(indexes, rows)}
-    uncalled = [it for it in found["counted"]["not_called"] if it in places] if statements else []
-    return [*head, *_indexes(indexes, rows), *_statements(statements, others, places), *_uncalled(uncalled), *end]
+    if not statements:
+        return [*head, *_indexes(indexes, rows), *end]
+    every = found["counted"]["statements"]
+    uncalled = [it for it in found["counted"]["not_called"] if it in places]
+    told = [*_statements(statements, others, places, len(every)), *_uncalled(uncalled), *_no_faster(every)]
+    return [*head, *_indexes(indexes, rows), *told, *end]
 
 
 def _sentences(found: dict[str, Any]) -> list[str]:
@@ -59,7 +63,7 @@ def _by_clock(found: dict[str, Any]) -> list[str]:
         are = "statement is" if slower == 1 else "statements are"
         lines += [f"{slower} {are} slower by more than half: look at EXPLAIN ANALYZE of what is marked with a !."]
     if counted["begin"] == "advice":
-        lines += ["Calls from before the indexes stood may be in it, until some come after the first call of effect."]
+        lines += ["Calls from before they were made may be in it; a later call of effect leaves those out."]
     return lines
 
 
@@ -105,8 +109,13 @@ def _of_all(counted: dict[str, Any]) -> str:
     every, writes = counted["all"], counted["writes"]
     took, was = (_seconds(every["calls"] * every[it]) for it in ("since", "before"))
     text = f"All {grouped(every['calls'])} calls took {took} s, at the times before {was}"
-    told = f"; writes {_ms(writes['since'])} ms a call, {_ms(writes['before'])} before" if writes["calls"] else ""
-    return f"{text}{told}."
+    saved = 100 * (1 - every["since"] / every["before"]) if every["before"] else 0.0
+    text += f": {about(abs(saved))} {'less' if saved >= 0 else 'more'}"
+    if not writes["calls"]:
+        return f"{text}."
+    change = writes["calls"] * (writes["since"] - writes["before"])
+    much = f"{_seconds(abs(change))} s {'more' if change >= 0 else 'less'} in all"
+    return f"{text}; writes {_ms(writes['since'])} ms a call, {_ms(writes['before'])} before, {much}."
 
 
 def _there(indexes: list[dict[str, Any]]) -> str:
@@ -168,11 +177,9 @@ def _shown(indexes: list[dict[str, Any]], most: int) -> list[dict[str, Any]]:
     return by_need if len(indexes) <= most else by_need[: most - 1]
 
 
-def _statements(every: list[dict[str, Any]], most: int, places: set[int]) -> list[str]:
+def _statements(every: list[dict[str, Any]], most: int, places: set[int], count: int) -> list[str]:
     """A row for the statement that gains the most by each index that has one, then for each that gained or lost the most,
-    and for the first that got slower."""
-    if not every:
-        return []
+    and for the first that got slower; and how many of so many have none."""
     mains = sorted((it for it in every if places & {*it["main"]}), key=lambda it: min(places & {*it["main"]}))
     rest = [it for it in every if it not in mains]
     slower = [it for it in rest if it["slower"]][:MOST_SLOWER]
@@ -184,8 +191,15 @@ def _statements(every: list[dict[str, Any]], most: int, places: set[int]) -> lis
         f" {'!' if it['slower'] else ' '}{it['sql']}"
         for it in shown
     ]
-    more = len(every) - len(shown)
+    more = count - len(shown)
     return lines + [f"and {grouped(more)} more"] * bool(more)
+
+
+def _no_faster(every: list[dict[str, Any]]) -> list[str]:
+    """The indexes whose main statements, called often enough, aren't faster."""
+    slow = [it for it in every if it["calls"] >= OFTEN and it["since"] > (1 - CHANGED) * it["before"]]
+    places = sorted({at for it in slow for at in it["main"]})
+    return [f"no faster with them: the statements of {', '.join(map(str, places))}"] * bool(places)
 
 
 def _numbers(it: dict[str, Any]) -> str:

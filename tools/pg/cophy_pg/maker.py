@@ -81,7 +81,7 @@ def make(words: argparse.Namespace) -> int:
     owners = _owners(document, rows)
     with kept.opened(folder.DDL) as script:
         _check(kept.path(folder.DDL), script.read().decode(errors="replace"), rows)
-        print("\n".join(_told(document, rows, owners, words)), flush=True)
+        print("\n".join([f"{files.shown(kept.name)}:", *_told(document, rows, owners, words)]), flush=True)
         if not words.is_sure and not _is_agreed():
             print("Nothing was changed.")
             return 1
@@ -145,7 +145,7 @@ def _told(document: dict[str, Any], rows: list[Row], owners: list[str], words: a
     """What is made with which statements, or dropped; as whom, and how long that takes."""
     shown = rows[:MOST_SHOWN]
     lines = [f"and {len(rows) - MOST_SHOWN} more"] * (len(rows) > MOST_SHOWN)
-    who = f"database {document['database']!a}, {'; '.join(_who(document, it, words) for it in owners)}"
+    who = f"database {document['database']!a} {'; '.join(_who(document, it, words) for it in owners)}"
     if words.undo:
         return [*(f"{at:>3}. {printable(told_as(it))}" for at, it in shown), *lines, f"Of these what was made; {who}."]
     text = [f"{at:>3}. {printable(line)}" for at, it in shown for line in it["statements"]]

@@ -19,13 +19,17 @@ def keep(host: str, port: str, secret: str) -> None:
 
 
 def forget(host: str, port: str) -> str:
-    """Takes the role's line for a host and a port away; the name of the file, or nothing where it has none."""
+    """Takes the role's line for a host and a port away, and a file that has no other; its name, or nothing where it has no such
+    line."""
     name = _name()
     begin, lines = _begin(host, port), _lines(name)
     others = [it for it in lines if not it.startswith(begin)]
     if others == lines:
         return ""
-    files.write([files.File(name, b"".join(others), before=os.stat(name))])
+    if not others and not os.path.islink(name):
+        os.unlink(name)
+    else:
+        files.write([files.File(name, b"".join(others), before=os.stat(name))])
     return name
 
 

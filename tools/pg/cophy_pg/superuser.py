@@ -50,7 +50,8 @@ class Superuser:
         given = [*self._words(database), *more]
         try:
             how = {"stdout": subprocess.PIPE, "stderr": subprocess.PIPE, "env": self.environment, "errors": "replace"}
-            ran = subprocess.run(given, input=text, text=True, check=False, **how)  # type: ignore[call-overload]
+            # Who sudo makes another user of may not enter the caller's folder.
+            ran = subprocess.run(given, input=text, text=True, check=False, cwd="/", **how)  # type: ignore[call-overload]
         except OSError as fault:
             raise NoInput(f"{given[0]}: {fault.strerror}") from None
         # The status 2 says that psql didn't connect.

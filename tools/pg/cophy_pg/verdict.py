@@ -34,9 +34,9 @@ SQL, LONGEST = 34, 40
 """So many characters of a statement are shown, and such a name of an index has others in its column."""
 MOST_WARNINGS = 2
 """Where there are no more warnings, the summary has them, each up to what ends it."""
-MUCH_SPACE, FEW = 0.25, 3
+MUCH_SPACE, FEW, APART = 0.25, 3, 5
 """An index that takes more than this part of the space for less than so many percent, and a tenth of what all save, is
-told; so is that rows don't sum to what all save but for so many percent."""
+told; so is that rows don't sum to what all save but for a few percent more."""
 MUCH_MORE = 10
 """Where others could save so many percent of the cost more, the index that most of that is of is told."""
 MOST_LISTED = 3
@@ -109,7 +109,8 @@ def _best(document: dict[str, Any], they: str) -> str:
         begin = free if left > asked * (1 - WELL_FILLED) else "No indexes within the budget save more"
         return f"{begin} by our model"
     saved, most = ours["before"] - cost, ceil(1000 * (ours["before"] - ours["bound"]) / ours["before"]) / 10
-    others = f"no others within the budget over {percent(most)}"
+    # The certificate is of so many pages of our model.
+    others = f"no others of {space(document['budget_pages'])} over {percent(most)}"
     return f"By our model {they[0].lower()}{they[1:]} {share(saved, ours['before'])} of the cost, {others}"
 
 
@@ -148,7 +149,7 @@ def _notes(advised: list[Row], document: dict[str, Any]) -> list[str]:
         what = f"{at} takes {space(it['stored_pages'])} for {percent(saved_of(it))}"
         lines += [f"{what}: make --without {at} leaves it out"]
     summed = sum(saved_of(it) for _, it in advised)
-    if advised and abs(summed - whole) >= FEW:
+    if advised and abs(summed - whole) >= APART:
         why = "others stand in for one that is missing" if summed < whole else "some save only together"
         lines += [f"rows sum to {summed:.0f} %, not {whole:.0f}: {why}"]
     near = [(at, it, [name for name in it.get("long", []) if name not in it.get("long_far", [])]) for at, it in advised]
@@ -220,7 +221,7 @@ def _rest(document: dict[str, Any], kept: Folder) -> list[str]:
     if beside:
         found = (f"{name} beside {', '.join(map(str, places))}" for name, places in beside.items())
         lines += [f"may be dropped once these are in use: {'; '.join(found)}"]
-    lines += told(document.get("writes", []))
+    lines += told(document.get("writes", []), made)
     lines += [*hints_shown(document), *unhelped(document)]
     if rows_of(document) and not _is_well_judged(document):
         lines += [f"judged by {part_of(document)}"]

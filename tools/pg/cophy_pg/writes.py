@@ -82,19 +82,27 @@ def _set_by(statement: list[Token], table: str) -> set[str]:
     return found
 
 
-def told(writes: list[dict[str, Any]]) -> list[str]:
-    """The line about the first ones, where there are any, and how many others there are."""
-    shown = [_told(it) for it in writes[:MOST_TABLES]]
+def told(writes: list[dict[str, Any]], made: Iterable[tuple[int, dict[str, Any]]] = ()) -> list[str]:
+    """The line about the first ones, where there are any, and how many others there are, with the numbers of what is made that
+    UPDATEs can't be HOT for."""
+    rows = [*made]
+    shown = [_told(it, [at for at, row in rows if _ends_hot(row, it)]) for it in writes[:MOST_TABLES]]
     others = counted(len(writes) - MOST_TABLES, "other table")
     shown += [f"those of {others} too"] * (len(writes) > MOST_TABLES)
     return [f"writes: {', '.join(shown)}"] * bool(shown)
 
 
-def _told(it: dict[str, Any]) -> str:
+def _ends_hot(row: dict[str, Any], write: dict[str, Any]) -> bool:
+    """Whether an index has a column for which a table's UPDATEs can't be HOT any more."""
+    return row["table"] == write["table"] and not {*row["columns"]}.isdisjoint(write["not_hot"])
+
+
+def _told(it: dict[str, Any], places: list[int]) -> str:
     count, before, command = it["kept"], it["before"], it["command"]
     have = "has" if command in PLACES else "have"
     table = it.get("path") or it["table"]
     text = f"{command} {PLACES.get(command, 'of')} {table} {have} {count} index{'es' * (count != 1)} more to keep"
     notes = [f"{before} to {before + count}"] if before is not None and count == it["new"] else []
-    notes += [f"UPDATEs of {in_row(it['not_hot'])} can't be HOT any more"] if it["not_hot"] else []
+    why = f" for {in_row([str(at) for at in places])}" if places else ""
+    notes += [f"UPDATEs of {in_row(it['not_hot'])} can't be HOT any more{why}"] if it["not_hot"] else []
     return f"{text} ({'; '.join(notes)})" if notes else text
