@@ -70,7 +70,8 @@ def joined(superuser: Superuser, owner: str) -> Iterator[str]:
 
 
 def _leave(superuser: Superuser, session: Session, leave: str) -> None:
-    """Takes the role away. Ctrl-C ends the session that made it too, so that another one does."""
+    """Takes the role away. Ctrl-C ends the session that made it too, so that another one does, which begins with these
+    signals blocked and so outlives a second Ctrl-C."""
     before = signal.pthread_sigmask(signal.SIG_BLOCK, ENDS)
     is_gone = False
     try:

@@ -4,14 +4,12 @@ from __future__ import annotations
 import os
 import secrets
 import shlex
-import signal
 import subprocess
 import sys
 from collections.abc import Iterator
 from contextlib import contextmanager, suppress
 from dataclasses import dataclass
 
-from cophy_text.files import ENDS
 from cophy_pg.inputs import NoInput
 from cophy_pg.local import LOCAL, PORT, run_as
 from cophy_pg.no_connection import failed
@@ -70,8 +68,6 @@ class Superuser:
     def session(self, database: str) -> Iterator[Session]:
         """A session that takes one script after the other, so that a password of sudo is asked for once."""
         how = {"stdin": subprocess.PIPE, "stdout": subprocess.PIPE, "env": self.environment, "errors": "replace"}
-        # One that is begun while signals have to wait can be broken off nevertheless.
-        how["preexec_fn"] = lambda: signal.pthread_sigmask(signal.SIG_UNBLOCK, ENDS)
         try:
             process = subprocess.Popen(self._words(database), text=True, cwd="/", **how)  # type: ignore[call-overload]
         except OSError as fault:
