@@ -175,7 +175,7 @@ class Advise(OverSql):
         self._reads_alone()
 
     def _reads_alone(self) -> None:
-        """Exactly those picks ask for VACUUM that plans read without their tables."""
+        """Exactly those picks ask for VACUUM that some plans read without their tables."""
         from cophy_pg.picks import scans_of
 
         plans = json.loads((self.found / "plans.json").read_text())
@@ -183,7 +183,7 @@ class Advise(OverSql):
         for it in json.loads((self.found / "advice.json").read_text())["picks"]:
             shown = f"{it['table']}({', '.join(it['columns'])})"
             kinds = {kind for name, kind in scans if plans["shown"].get(name) == shown}
-            self.assertEqual(any("VACUUM" in note for note in it["notes"]), kinds == {"Index Only Scan"}, it)
+            self.assertEqual(any("VACUUM" in note for note in it["notes"]), "Index Only Scan" in kinds, it)
 
     def test_statuses(self) -> None:
         self.sql.write_text("SELECT id FROM customer WHERE id = 3;\n")

@@ -27,7 +27,7 @@ def row(at: int, owner: str | None = "boss", caveat: str | None = None, **more: 
         "owner": owner,
         "caveat": caveat,
     }
-    return given | {"stored_pages": 128, "build_seconds": 2.0, "clustered": False, "number": at} | more
+    return given | {"notes": [], "stored_pages": 128, "build_seconds": 2.0, "clustered": False, "number": at} | more
 
 
 def document(*picks: dict[str, Any], **more: Any) -> dict[str, Any]:
@@ -129,6 +129,23 @@ class Told(unittest.TestCase):
 
         with self.assertRaisesRegex(NoInput, "who owns the tables"):
             self.told(row(1, owner=None), given={"owners": []})
+
+
+class After(unittest.TestCase):
+    """What is told once all is made, or taken back."""
+
+    def test_tables_to_vacuum_are_named_with_the_indexes_that_this_helps(self) -> None:
+        from cophy_pg.folder import Folder
+        from cophy_pg.maker import _end
+
+        alone: dict[str, Any] = {"notes": ["so VACUUM often"]}
+        rows = [(1, row(1, **alone)), (2, row(2)), (3, row(3, path="s.u", **alone))]
+        found, kept = document(*(it for _, it in rows)), Folder("/a b")
+        end = ["whether it helped: cophy-pg effect '/a b'", "to take them back: cophy-pg make '/a b' --undo"]
+        first = "VACUUM of s.u and t soon: plans read 1 and 3 without the table where it has marked pages"
+        self.assertEqual(_end(found, kept, rows, False).splitlines(), [first, *end])
+        self.assertEqual(_end(found, kept, rows[1:2], False).splitlines(), end)
+        self.assertEqual(_end(found, kept, rows, True), "to make them again: cophy-pg make '/a b'")
 
 
 class Connected(unittest.TestCase):

@@ -13,7 +13,7 @@ from contextlib import contextmanager, suppress
 from typing import Any, BinaryIO
 
 from cophy_text import files
-from cophy_text.shown import printable, space
+from cophy_text.shown import in_row, printable, space
 from cophy_pg import folder
 from cophy_pg.changes import Found
 from cophy_pg.closing import commands_of, is_here, is_user, made_by, rows_of, seen_by
@@ -90,7 +90,7 @@ def make(words: argparse.Namespace) -> int:
             script.seek(0)
             if not _is_done(document, script, owner, _variables(document, own, words), words):
                 return 1
-    print(_end(document, kept, words.undo))
+    print(_end(document, kept, rows, words.undo))
     return 0
 
 
@@ -229,8 +229,14 @@ def _wait(command: list[str], environment: dict[str, str], script: int) -> int:
         raise
 
 
-def _end(document: dict[str, Any], kept: Folder, is_undone: bool) -> str:
-    """What comes next."""
+def _end(document: dict[str, Any], kept: Folder, rows: list[Row], is_undone: bool) -> str:
+    """What comes next, with the tables without which some plans read their indexes once VACUUM has marked their pages."""
     if is_undone:
         return f"to make them again: {made_by(document, kept)}"
-    return f"{seen_by(kept)}\nto take them back: {made_by(document, kept)} --undo"
+    alone = [(at, it) for at, it in rows if any("VACUUM" in note for note in it["notes"])]
+    tables = printable(in_row(sorted({it.get("path") or it["table"] for _, it in alone}))) if alone else ""
+    numbered = in_row([str(at) for at, _ in alone]) if alone else ""
+    lines = [f"VACUUM of {tables} soon: plans read {numbered} without the table where it has marked pages"] * bool(
+        alone
+    )
+    return "\n".join([*lines, seen_by(kept), f"to take them back: {made_by(document, kept)} --undo"])

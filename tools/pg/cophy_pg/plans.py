@@ -37,8 +37,8 @@ class Shown(NamedTuple):
 @dataclass
 class Plans:
     """Plans by the numbers of their verdicts, and for each pick, by its number, what the statements that take it cost
-    without it. `made` and `shown` have the picks by the names of their indexes in plans, and `alone` those that plans read
-    without their tables. `walked` has the statements that walk along a pick in the order of a LIMIT, and `doubted` what
+    without it. `made` and `shown` have the picks by the names of their indexes in plans, and `alone` those that some plans
+    read without their tables. `walked` has the statements that walk along a pick in the order of a LIMIT, and `doubted` what
     all their calls are said to save by that, which isn't counted. `by_default` has the plans with what the script makes unless
     it is told otherwise, of the statements that were asked about anew for that; the others' are those with all picks. It is
     nothing where that isn't known."""
@@ -88,7 +88,7 @@ def plans_of(server: Server, schema: Schema, advice: Advice, found: list[Verdict
         plans.made, plans.shown = made, {name: _shown(advice, number) for name, number in made.items()}
         plans.after = each_plan(explainer, known, progress)
         scans = {it for plan in plans.after.values() for it in scans_of(plan) if it[0] in made}
-        plans.alone = {made[it] for it, _ in scans} - {made[it] for it, kind in scans if kind != ALONE}
+        plans.alone = {made[it] for it, kind in scans if kind == ALONE}
         for pick in advice.picks:
             names = {name for name, number in made.items() if number == pick.number}
             users = [it for it in known if names & index_names(plans.after.get(it.number, {}))]

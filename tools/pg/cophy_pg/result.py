@@ -31,7 +31,7 @@ from cophy_pg.writes import Indexed, writes_of
 
 VACUUM = (
     "plans read it without its table, which takes pages that VACUUM has marked: where many rows change, VACUUM often, "
-    "or plans leave it"
+    "or these plans cost more, or leave it"
 )
 
 
